@@ -8,10 +8,9 @@
 --   primary        group-rule, ex-rule fa-rule, tc-rule tcfast-rule, true-rule false-rule, sign-before-rule; no-primary!
 --   by its second token: atom! atom-fails!, between! between-fails!, name-alone! string-alone! any-alone!
 --   EX and FA      one-more! one-more-fails! (identifier and comma); body-rule, or body-name-rule after an identifier
-use Prim.Native.Nat.{ℕ, suc, _≤_}
+use Prim.Native.Nat.{ℕ, _≤_}
 use mathlib.Core.List.{List, [], _∷_, _++_}
 use mathlib.Core.Bool.{Bool, true, false, _||_}
-use mathlib.Core.Option.{some, none}
 use mathlib.Core.Path.{_≡_, refl, ap, sym, subst, _∙_}
 use native.Mathlib.Omega.{arith}
 use lib.Dec.{leb, eqb}
@@ -20,7 +19,7 @@ use Rattle.definition.proofs.GrammarComplete.{Halts, on-not}
 use Rattle.definition.proofs.GrammarReads.{Next, nothing, a-name, a-string, a-sign, a-key, next, Reads, Fails, Rule, read!, fail!, Stands, _▸_, _▹_, stop!, done!, empty!, none!, sign!, no-sign!, unit-eq, like-eq, start-eq, via, goes, on-goes, on-halts}
 use Rattle.definition.specs.Grammar.{Tree, Term, Terms, MoreTerms, Expression, Comparison, Implication, Consequent, Disjunction, MoreOr, Conjunction, MoreAnd, Negation, Primary, Quantified, flat}
 use Rattle.definition.specs.Grammar.{no-terms, terms, end-terms, more-terms, term-name, term-string, term-any, expression, no-comparison, comparison, implication, no-consequent, implies, iff, disjunction, end-or, more-or, conjunction, end-and, more-and, negation, primary, group, ex, fa, tc, tcfast, atom, true-atom, false-atom, sign-before, sign-between, one-more-attribute, quantified-body}
-use Rattle.definition.specs.Reader.{Symbol, phrase, fixed, identifier, any-sign, after-name, after-quantified, level-end, Value, Forest, Move, go, halt, on-key, wrap, rule, empty, levels-open, as-negation, as-body, as-quantified-rest, arguments, compared-with, quantified-more, primary-of, quantified-of, map-reading, read}
+use Rattle.definition.specs.Reader.{Symbol, phrase, fixed, identifier, any-sign, after-name, after-quantified, level-end, halt, on-key, wrap, rule, levels-open, as-negation, as-body, as-quantified-rest, arguments, compared-with, quantified-more, primary-of, quantified-of, map-reading, read}
 use Rattle.definition.specs.Token.{Terminal, name, string, sign, key, Sign, LPAREN, RPAREN, COMMA, AND, OR, NOT, IMPLIES, IFF, UNDERSCORE, EX, FA, TC, TCFAST, TRUE, FALSE}
 
 -- A phrase that takes a key c alone.

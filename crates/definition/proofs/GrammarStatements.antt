@@ -1,0 +1,275 @@
+-- The productions of statements, a line each, for code that reads them: GrammarReads says how a return cites them.
+--   left sides     left-name-rule left-string-rule no-left!; lefts-rule no-lefts!; more-lefts-rule end-lefts!
+--   words          word-name-rule word-string-rule no-word!
+--   items          labelled-rule endl-rule; more-items-rule end-items!
+--   by the next two tokens: item-name! item-string! (s alone); item-call-rule item-sign-rule item-string-rule, item-rule at any other token (an expression)
+--   statements     left-side-rule, with becomes-rule or alone-rule or no-left-end! for what follows `R(t,..)`; conditional-rule while-rule for-rule nested-rule print-rule; no-statement!
+--   blocks, ELSE   block-rule no-block!; else-rule no-else!
+--   programs       program-rule; more-statements-rule end-statements!; AnswerLaws has the end: program-read program-left program-fails
+use Prim.Native.Nat.{ℕ, _≤_}
+use mathlib.Core.List.{List, [], _∷_}
+use mathlib.Core.Bool.{Bool, true, false, _||_}
+use mathlib.Core.Path.{_≡_, refl, ap, sym, subst, _∙_}
+use native.Mathlib.Omega.{arith}
+use lib.Dec.{leb, eqb}
+use borrow.Author.Tests.{ne-eqb}
+use Rattle.definition.proofs.GrammarComplete.{Halts, on-not}
+use Rattle.definition.proofs.GrammarReads.{Next, nothing, a-name, a-string, a-sign, a-key, next, Reads, Fails, Rule, read!, Stands, empty!, none!, unit-eq, like-eq, start-eq, via, goes, on-goes, on-halts}
+use Rattle.definition.proofs.GrammarExpressions.{only-key, rests}
+use Rattle.definition.specs.Grammar.{Program, MoreStatements, Statement, Block, Else, Lefts, MoreLefts, Left, MoreItems, Item, Word, Term, Expression}
+use Rattle.definition.specs.Grammar.{program, end-statements, more-statements, conditional, while-loop, for-loop, nested-block, print-statement, block, no-else, else-block, no-lefts, lefts, end-lefts, more-lefts, left-name, left-string, end-items, more-items, item-expression, item-labelled, item-word, item-endl, word-name, word-string}
+use Rattle.definition.specs.Reader.{Symbol, phrase, fixed, identifier, any-sign, after-name, after-item-name, after-item-string, after-left, level-end, on-key, wrap, levels-open, as-item, as-item-name-rest, as-item-string-rest, left-becomes, left-alone, item-of, string-item-of, statement-of, map-reading, read}
+use Rattle.definition.specs.Token.{Terminal, name, string, sign, key, Sign, LPAREN, RPAREN, LBRACE, RBRACE, LBRACKET, RBRACKET, COMMA, SEMICOLON, BECOMES, IF, ELSE, WHILE, FOR, IN, PRINT, ENDL}
+
+-- an identifier or a string: a left-hand term, or s of an item
+abbrev pub names-string : Next → Bool
+names-string nothing = false
+names-string a-name = true
+names-string a-string = true
+names-string (a-sign g) = false
+names-string (a-key k) = false
+
+pub not-names-string : (n : Next) → (n ≡ a-name → ⊥) → (n ≡ a-string → ⊥) → names-string n ≡ false
+not-names-string nothing a b = refl
+not-names-string a-name a b = absurd (a refl)
+not-names-string a-string a b = absurd (b refl)
+not-names-string (a-sign g) a b = refl
+not-names-string (a-key k) a b = refl
+
+-- Left sides.
+pub left-name-rule : {x : ℕ} → Rule (phrase Left) (name x) [] (λ fs. left-name x)
+left-name-rule = record { is = λ s. refl }
+
+pub left-string-rule : {x : ℕ} → Rule (phrase Left) (string x) [] (λ fs. left-string x)
+left-string-rule = record { is = λ s. refl }
+
+left-halts : (ts : List Terminal) → names-string (next ts) ≡ false → Halts (phrase Left) ts
+left-halts [] h = tt
+left-halts (name x ∷ l) h = absurd (let z : _≡_ {A = ℕ} 0 1 = cc in omega arith)
+left-halts (string x ∷ l) h = absurd (let z : _≡_ {A = ℕ} 0 1 = cc in omega arith)
+left-halts (sign g ∷ l) h = λ s. refl
+left-halts (key k ∷ l) h = λ s. refl
+
+pub no-left! : {d : ℕ} {ts : List Terminal} → names-string (next ts) ≡ false → Fails d (phrase Left ∷ []) ts 10 ts
+no-left! {ts = ts} h = none! (phrase Left) ts refl (left-halts ts h)
+
+lefts-halts : (ts : List Terminal) → Halts (phrase Left) ts → Halts (phrase Lefts) ts
+unfolding wrap
+lefts-halts [] h = tt
+lefts-halts (t ∷ l) h = λ s. ap (wrap _) (h (phrase MoreLefts ∷ s))
+
+pub no-lefts! : {d : ℕ} {ts : List Terminal} → names-string (next ts) ≡ false → Reads d (phrase Lefts ∷ []) ts (no-lefts, tt) ts
+no-lefts! {ts = ts} h = empty! (phrase Lefts) ts refl (lefts-halts ts (left-halts ts h))
+
+pub lefts-rule : {ts : List Terminal} → names-string (next ts) ≡ true → Stands (phrase Lefts) (phrase Left ∷ phrase MoreLefts ∷ []) (λ fs. lefts (fs .0) (fs .1 .0)) ts
+lefts-rule {ts} h = record { is = λ s. at ts h s }
+  where
+    at : (ts : List Terminal) → names-string (next ts) ≡ true → (s : List Symbol) → read ts (phrase Lefts ∷ s) ≡ map-reading (λ fs. (lefts (fs .0) (fs .1 .0), fs .1 .1)) (read ts (phrase Left ∷ phrase MoreLefts ∷ s))
+    at [] h s = absurd (let z : _≡_ {A = ℕ} 0 1 = cc in omega arith)
+    at (name x ∷ l) h s = start-eq (phrase Lefts) (phrase Left) s (phrase MoreLefts ∷ s) _ (name x) refl (goes _ _) l
+    at (string x ∷ l) h s = start-eq (phrase Lefts) (phrase Left) s (phrase MoreLefts ∷ s) _ (string x) refl (goes _ _) l
+    at (sign g ∷ l) h s = absurd (let z : _≡_ {A = ℕ} 0 1 = cc in omega arith)
+    at (key k ∷ l) h s = absurd (let z : _≡_ {A = ℕ} 0 1 = cc in omega arith)
+
+pub more-lefts-rule : Rule (phrase MoreLefts) (key COMMA) (phrase Left ∷ phrase MoreLefts ∷ []) (λ fs. more-lefts (fs .0) (fs .1 .0))
+unfolding on-key
+more-lefts-rule = record { is = λ s. refl }
+
+pub end-lefts! : {d : ℕ} {ts : List Terminal} → (next ts ≡ a-key COMMA → ⊥) → Reads d (phrase MoreLefts ∷ []) ts (end-lefts, tt) ts
+end-lefts! {ts = ts} h = empty! (phrase MoreLefts) ts refl (only-key (phrase MoreLefts) COMMA (λ i s. refl) (λ i s. refl) (λ g s. refl) (λ k s e. on-not k COMMA _ _ e) ts h)
+
+-- Items.
+pub word-name-rule : {x : ℕ} → Rule (phrase Word) (name x) [] (λ fs. word-name x)
+word-name-rule = record { is = λ s. refl }
+
+pub word-string-rule : {x : ℕ} → Rule (phrase Word) (string x) [] (λ fs. word-string x)
+word-string-rule = record { is = λ s. refl }
+
+word-halts : (ts : List Terminal) → names-string (next ts) ≡ false → Halts (phrase Word) ts
+word-halts [] h = tt
+word-halts (name x ∷ l) h = absurd (let z : _≡_ {A = ℕ} 0 1 = cc in omega arith)
+word-halts (string x ∷ l) h = absurd (let z : _≡_ {A = ℕ} 0 1 = cc in omega arith)
+word-halts (sign g ∷ l) h = λ s. refl
+word-halts (key k ∷ l) h = λ s. refl
+
+pub no-word! : {d : ℕ} {ts : List Terminal} → names-string (next ts) ≡ false → Fails d (phrase Word ∷ []) ts 10 ts
+no-word! {ts = ts} h = none! (phrase Word) ts refl (word-halts ts h)
+
+pub labelled-rule : Rule (phrase Item) (key LBRACKET) (phrase Word ∷ fixed RBRACKET ∷ phrase Expression ∷ []) (λ fs. item-labelled (fs .0) (fs .1 .1 .0))
+unfolding on-key
+labelled-rule = record { is = λ s. refl }
+
+pub endl-rule : Rule (phrase Item) (key ENDL) [] (λ fs. item-endl)
+unfolding on-key
+endl-rule = record { is = λ s. refl }
+
+pub more-items-rule : Rule (phrase MoreItems) (key COMMA) (phrase Item ∷ phrase MoreItems ∷ []) (λ fs. more-items (fs .0) (fs .1 .0))
+unfolding on-key
+more-items-rule = record { is = λ s. refl }
+
+pub end-items! : {d : ℕ} {ts : List Terminal} → (next ts ≡ a-key COMMA → ⊥) → Reads d (phrase MoreItems ∷ []) ts (end-items, tt) ts
+end-items! {ts = ts} h = empty! (phrase MoreItems) ts refl (only-key (phrase MoreItems) COMMA (λ i s. refl) (λ i s. refl) (λ g s. refl) (λ k s e. on-not k COMMA _ _ e) ts h)
+
+name-rule : {x : ℕ} → Rule (phrase Item) (name x) (after-item-name ∷ []) (λ fs. item-of x (fs .0))
+name-rule = record { is = λ s. refl }
+
+string-rule : {x : ℕ} → Rule (phrase Item) (string x) (after-item-string ∷ []) (λ fs. string-item-of x (fs .0))
+string-rule = record { is = λ s. refl }
+
+-- an identifier that neither ( nor a sign follows, and a string that no sign follows
+name-halts : (l : List Terminal) → (next l ≡ a-key LPAREN → ⊥) → ((g : Sign) → next l ≡ a-sign g → ⊥) → Halts after-item-name l
+unfolding wrap
+name-halts [] h i = tt
+name-halts (name x ∷ l) h i = λ s. refl
+name-halts (string x ∷ l) h i = λ s. refl
+name-halts (sign g ∷ l) h i = absurd (i g refl)
+name-halts (key k ∷ l) h i = λ s. ap (wrap (as-item-name-rest s)) (on-not k LPAREN _ _ (ne-eqb k LPAREN (λ e. h (ap a-key e))))
+
+pub item-name! : {d x : ℕ} {ts l : List Terminal} → d ≤ 32 → ts ≡ name x ∷ l → (next l ≡ a-key LPAREN → ⊥) → ((g : Sign) → next l ≡ a-sign g → ⊥) → Reads d (phrase Item ∷ []) ts (item-word (word-name x), tt) l
+item-name! {l = l} k e h i = read! name-rule k e (empty! after-item-name l refl (name-halts l h i))
+
+string-halts : (l : List Terminal) → ((g : Sign) → next l ≡ a-sign g → ⊥) → Halts after-item-string l
+unfolding wrap
+string-halts [] h = tt
+string-halts (name x ∷ l) h = λ s. refl
+string-halts (string x ∷ l) h = λ s. refl
+string-halts (sign g ∷ l) h = absurd (h g refl)
+string-halts (key k ∷ l) h = λ s. refl
+
+pub item-string! : {d x : ℕ} {ts l : List Terminal} → d ≤ 32 → ts ≡ string x ∷ l → ((g : Sign) → next l ≡ a-sign g → ⊥) → Reads d (phrase Item ∷ []) ts (item-word (word-string x), tt) l
+item-string! {l = l} k e h = read! string-rule k e (empty! after-item-string l refl (string-halts l h))
+
+item-name : (x : ℕ) (l : List Terminal) (s : List Symbol) → read l (after-item-name ∷ s) ≡ map-reading (as-item-name-rest s) (read l (after-name ∷ rests s)) → read (name x ∷ l) (phrase Item ∷ s) ≡ map-reading (as-item s) (read (name x ∷ l) (phrase Expression ∷ s))
+unfolding wrap
+item-name x l s e = via (after-name ∷ rests s) (after-item-name ∷ s) (phrase Expression ∷ s) (phrase Item ∷ s) (leb (levels-open s) 32) (name x ∷ l) _ _ (as-item-name-rest s) (as-item s) (λ u. refl) (read l (after-name ∷ rests s)) (read l (after-item-name ∷ s)) e
+
+item-string : (x : ℕ) (l : List Terminal) (s : List Symbol) → read l (after-item-string ∷ s) ≡ map-reading (as-item-string-rest s) (read l (any-sign ∷ phrase Term ∷ rests s)) → read (string x ∷ l) (phrase Item ∷ s) ≡ map-reading (as-item s) (read (string x ∷ l) (phrase Expression ∷ s))
+unfolding wrap
+item-string x l s e = via (any-sign ∷ phrase Term ∷ rests s) (after-item-string ∷ s) (phrase Expression ∷ s) (phrase Item ∷ s) (leb (levels-open s) 32) (string x ∷ l) _ _ (as-item-string-rest s) (as-item s) (λ u. refl) (read l (any-sign ∷ phrase Term ∷ rests s)) (read l (after-item-string ∷ s)) e
+
+-- an identifier and ( or a sign, a string and a sign, or any other token: the item is an expression
+pub item-call-rule : {x : ℕ} {ts l m : List Terminal} → ts ≡ name x ∷ l → l ≡ key LPAREN ∷ m → Stands (phrase Item) (phrase Expression ∷ []) (λ fs. item-expression (fs .0)) ts
+unfolding on-key
+item-call-rule {x} {m = m} e i = subst (Stands (phrase Item) (phrase Expression ∷ []) (λ fs. item-expression (fs .0))) (sym (e ∙ ap (λ u. name x ∷ u) i)) (record { is = λ s. item-name x (key LPAREN ∷ m) s (start-eq after-item-name after-name s (rests s) (as-item-name-rest s) (key LPAREN) refl (goes _ _) m) })
+
+pub item-sign-rule : {x : ℕ} {g : Sign} {ts l m : List Terminal} → ts ≡ name x ∷ l → l ≡ sign g ∷ m → Stands (phrase Item) (phrase Expression ∷ []) (λ fs. item-expression (fs .0)) ts
+item-sign-rule {x} {g} {m = m} e i = subst (Stands (phrase Item) (phrase Expression ∷ []) (λ fs. item-expression (fs .0))) (sym (e ∙ ap (λ u. name x ∷ u) i)) (record { is = λ s. item-name x (sign g ∷ m) s (start-eq after-item-name after-name s (rests s) (as-item-name-rest s) (sign g) refl (goes _ _) m) })
+
+pub item-string-rule : {x : ℕ} {g : Sign} {ts l m : List Terminal} → ts ≡ string x ∷ l → l ≡ sign g ∷ m → Stands (phrase Item) (phrase Expression ∷ []) (λ fs. item-expression (fs .0)) ts
+item-string-rule {x} {g} {m = m} e i = subst (Stands (phrase Item) (phrase Expression ∷ []) (λ fs. item-expression (fs .0))) (sym (e ∙ ap (λ u. string x ∷ u) i)) (record { is = λ s. item-string x (sign g ∷ m) s (start-eq after-item-string any-sign s (phrase Term ∷ rests s) (as-item-string-rest s) (sign g) refl (goes _ _) m) })
+
+pub item-rule : {ts : List Terminal} → names-string (next ts) ≡ false → (next ts ≡ a-key LBRACKET → ⊥) → (next ts ≡ a-key ENDL → ⊥) → Stands (phrase Item) (phrase Expression ∷ []) (λ fs. item-expression (fs .0)) ts
+item-rule {ts} h i j = record { is = λ s. at ts h i j s }
+  where
+    at : (ts : List Terminal) → names-string (next ts) ≡ false → (next ts ≡ a-key LBRACKET → ⊥) → (next ts ≡ a-key ENDL → ⊥) → (s : List Symbol) → read ts (phrase Item ∷ s) ≡ map-reading (as-item s) (read ts (phrase Expression ∷ s))
+    at [] h i j s = refl
+    at (name x ∷ l) h i j s = absurd (let z : _≡_ {A = ℕ} 0 1 = cc in omega arith)
+    at (string x ∷ l) h i j s = absurd (let z : _≡_ {A = ℕ} 0 1 = cc in omega arith)
+    at (sign g ∷ l) h i j s = like-eq (phrase Item) (phrase Expression) s s (as-item s) refl refl (sign g) refl l
+    at (key k ∷ l) h i j s = like-eq (phrase Item) (phrase Expression) s s (as-item s) refl refl (key k) (on-not k LBRACKET _ _ (ne-eqb k LBRACKET (λ e. i (ap a-key e))) ∙ on-not k ENDL _ _ (ne-eqb k ENDL (λ e. j (ap a-key e)))) l
+
+-- Statements: `R(t,..)` with what follows it, and those that their first token tells.
+pub left-side-rule : {x : ℕ} → Rule (phrase Statement) (name x) (fixed LPAREN ∷ phrase Lefts ∷ fixed RPAREN ∷ after-left ∷ []) (λ fs. statement-of x (fs .1 .0) (fs .1 .1 .1 .0))
+left-side-rule = record { is = λ s. refl }
+
+pub becomes-rule : Rule after-left (key BECOMES) (phrase Expression ∷ fixed SEMICOLON ∷ []) (λ fs. left-becomes (fs .0))
+unfolding on-key
+becomes-rule = record { is = λ s. refl }
+
+pub alone-rule : Rule after-left (key SEMICOLON) [] (λ fs. left-alone)
+unfolding on-key
+alone-rule = record { is = λ s. refl }
+
+pub no-left-end! : {d : ℕ} {ts : List Terminal} → (next ts ≡ a-key BECOMES → ⊥) → (next ts ≡ a-key SEMICOLON → ⊥) → Fails d (after-left ∷ []) ts 10 ts
+no-left-end! {ts = ts} h i = none! after-left ts refl (at ts h i)
+  where
+    at : (ts : List Terminal) → (next ts ≡ a-key BECOMES → ⊥) → (next ts ≡ a-key SEMICOLON → ⊥) → Halts after-left ts
+    at [] h i = tt
+    at (name x ∷ l) h i = λ s. refl
+    at (string x ∷ l) h i = λ s. refl
+    at (sign g ∷ l) h i = λ s. refl
+    at (key k ∷ l) h i = λ s. on-not k BECOMES _ _ (ne-eqb k BECOMES (λ e. h (ap a-key e))) ∙ on-not k SEMICOLON _ _ (ne-eqb k SEMICOLON (λ e. i (ap a-key e)))
+
+pub conditional-rule : Rule (phrase Statement) (key IF) (phrase Expression ∷ phrase Block ∷ phrase Else ∷ []) (λ fs. conditional (fs .0) (fs .1 .0) (fs .1 .1 .0))
+unfolding on-key
+conditional-rule = record { is = λ s. refl }
+
+pub while-rule : Rule (phrase Statement) (key WHILE) (phrase Expression ∷ phrase Block ∷ []) (λ fs. while-loop (fs .0) (fs .1 .0))
+unfolding on-key
+while-rule = record { is = λ s. refl }
+
+pub for-rule : Rule (phrase Statement) (key FOR) (identifier ∷ fixed IN ∷ phrase Expression ∷ phrase Block ∷ []) (λ fs. for-loop (fs .0) (fs .1 .1 .0) (fs .1 .1 .1 .0))
+unfolding on-key
+for-rule = record { is = λ s. refl }
+
+pub nested-rule : Rule (phrase Statement) (key LBRACE) (phrase Statement ∷ phrase MoreStatements ∷ fixed RBRACE ∷ level-end ∷ []) (λ fs. nested-block (fs .0) (fs .1 .0))
+unfolding on-key
+nested-rule = record { is = λ s. refl }
+
+pub print-rule : Rule (phrase Statement) (key PRINT) (phrase Item ∷ phrase MoreItems ∷ fixed SEMICOLON ∷ []) (λ fs. print-statement (fs .0) (fs .1 .0))
+unfolding on-key
+print-rule = record { is = λ s. refl }
+
+pub block-rule : Rule (phrase Block) (key LBRACE) (phrase Statement ∷ phrase MoreStatements ∷ fixed RBRACE ∷ level-end ∷ []) (λ fs. block (fs .0) (fs .1 .0))
+unfolding on-key
+block-rule = record { is = λ s. refl }
+
+pub no-block! : {d : ℕ} {ts : List Terminal} → (next ts ≡ a-key LBRACE → ⊥) → Fails d (phrase Block ∷ []) ts 10 ts
+no-block! {ts = ts} h = none! (phrase Block) ts refl (only-key (phrase Block) LBRACE (λ i s. refl) (λ i s. refl) (λ g s. refl) (λ k s e. on-not k LBRACE _ _ e) ts h)
+
+pub else-rule : Rule (phrase Else) (key ELSE) (phrase Block ∷ []) (λ fs. else-block (fs .0))
+unfolding on-key
+else-rule = record { is = λ s. refl }
+
+pub no-else! : {d : ℕ} {ts : List Terminal} → (next ts ≡ a-key ELSE → ⊥) → Reads d (phrase Else ∷ []) ts (no-else, tt) ts
+no-else! {ts = ts} h = empty! (phrase Else) ts refl (only-key (phrase Else) ELSE (λ i s. refl) (λ i s. refl) (λ g s. refl) (λ k s e. on-not k ELSE _ _ e) ts h)
+
+-- the tokens that begin a statement
+abbrev pub begins-statement : Next → Bool
+begins-statement nothing = false
+begins-statement a-name = true
+begins-statement a-string = false
+begins-statement (a-sign g) = false
+begins-statement (a-key k) = eqb k IF || (eqb k WHILE || (eqb k FOR || (eqb k LBRACE || (eqb k PRINT || false))))
+
+pub not-statement : (n : Next) → (n ≡ a-name → ⊥) → (n ≡ a-key IF → ⊥) → (n ≡ a-key WHILE → ⊥) → (n ≡ a-key FOR → ⊥) → (n ≡ a-key LBRACE → ⊥) → (n ≡ a-key PRINT → ⊥) → begins-statement n ≡ false
+not-statement nothing x a b c d e = refl
+not-statement a-name x a b c d e = absurd (x refl)
+not-statement a-string x a b c d e = refl
+not-statement (a-sign i) x a b c d e = refl
+not-statement (a-key k) x a b c d e = no k IF _ a (no k WHILE _ b (no k FOR _ c (no k LBRACE _ d (no k PRINT _ e refl))))
+  where
+    no : (k c : ℕ) (v : Bool) → (a-key k ≡ a-key c → ⊥) → v ≡ false → (eqb k c || v) ≡ false
+    no k c v h e = ap (λ u. u || v) (ne-eqb k c (λ i. h (ap a-key i))) ∙ e
+
+statement-halts : (ts : List Terminal) → begins-statement (next ts) ≡ false → Halts (phrase Statement) ts
+statement-halts [] h = tt
+statement-halts (name x ∷ l) h = absurd (let z : _≡_ {A = ℕ} 0 1 = cc in omega arith)
+statement-halts (string x ∷ l) h = λ s. refl
+statement-halts (sign g ∷ l) h = λ s. refl
+statement-halts (key k ∷ l) h = λ s. on-halts k IF _ _ (eqb k WHILE || (eqb k FOR || (eqb k LBRACE || (eqb k PRINT || false)))) (on-halts k WHILE _ _ (eqb k FOR || (eqb k LBRACE || (eqb k PRINT || false))) (on-halts k FOR _ _ (eqb k LBRACE || (eqb k PRINT || false)) (on-halts k LBRACE _ _ (eqb k PRINT || false) (on-halts k PRINT _ _ false (λ e. refl))))) h
+
+pub no-statement! : {d : ℕ} {ts : List Terminal} → begins-statement (next ts) ≡ false → Fails d (phrase Statement ∷ []) ts 10 ts
+no-statement! {ts = ts} h = none! (phrase Statement) ts refl (statement-halts ts h)
+
+-- One or more statements.
+pub program-rule : {ts : List Terminal} → Stands (phrase Program) (phrase Statement ∷ phrase MoreStatements ∷ []) (λ fs. program (fs .0) (fs .1 .0)) ts
+program-rule {ts} = record { is = λ s. unit-eq (phrase Program) (phrase Statement) s (phrase MoreStatements ∷ s) _ refl refl (λ t. refl) ts }
+
+more-statements-halts : (ts : List Terminal) → Halts (phrase Statement) ts → Halts (phrase MoreStatements) ts
+unfolding wrap
+more-statements-halts [] h = tt
+more-statements-halts (t ∷ l) h = λ s. ap (wrap _) (h (phrase MoreStatements ∷ s))
+
+pub end-statements! : {d : ℕ} {ts : List Terminal} → begins-statement (next ts) ≡ false → Reads d (phrase MoreStatements ∷ []) ts (end-statements, tt) ts
+end-statements! {ts = ts} h = empty! (phrase MoreStatements) ts refl (more-statements-halts ts (statement-halts ts h))
+
+pub more-statements-rule : {ts : List Terminal} → begins-statement (next ts) ≡ true → Stands (phrase MoreStatements) (phrase Statement ∷ phrase MoreStatements ∷ []) (λ fs. more-statements (fs .0) (fs .1 .0)) ts
+more-statements-rule {ts} h = record { is = λ s. at ts h s }
+  where
+    at : (ts : List Terminal) → begins-statement (next ts) ≡ true → (s : List Symbol) → read ts (phrase MoreStatements ∷ s) ≡ map-reading (λ fs. (more-statements (fs .0) (fs .1 .0), fs .1 .1)) (read ts (phrase Statement ∷ phrase MoreStatements ∷ s))
+    at [] h s = absurd (let z : _≡_ {A = ℕ} 0 1 = cc in omega arith)
+    at (name x ∷ l) h s = start-eq (phrase MoreStatements) (phrase Statement) s (phrase MoreStatements ∷ s) _ (name x) refl (goes _ _) l
+    at (string x ∷ l) h s = absurd (let z : _≡_ {A = ℕ} 0 1 = cc in omega arith)
+    at (sign g ∷ l) h s = absurd (let z : _≡_ {A = ℕ} 0 1 = cc in omega arith)
+    at (key k ∷ l) h s = start-eq (phrase MoreStatements) (phrase Statement) s (phrase MoreStatements ∷ s) _ (key k) refl (on-goes k IF _ _ _ (eqb k WHILE || (eqb k FOR || (eqb k LBRACE || (eqb k PRINT || false)))) (on-goes k WHILE _ _ _ (eqb k FOR || (eqb k LBRACE || (eqb k PRINT || false))) (on-goes k FOR _ _ _ (eqb k LBRACE || (eqb k PRINT || false)) (on-goes k LBRACE _ _ _ (eqb k PRINT || false) (on-goes k PRINT _ _ _ false (λ e. absurd (let z : _≡_ {A = ℕ} 0 1 = cc in omega arith)))))) h) l
