@@ -1,11 +1,11 @@
 use borrow.Author.Needs.{needs}
-use Prim.Native.Nat.{ℕ, _+_, _-_, _<_, _≤_}
-use mathlib.Core.Path.{_≡_, refl, sym, ap, ap₂, _∙_}
+use Prim.Native.Nat.{ℕ, _-_, _≤_}
+use mathlib.Core.Path.{_≡_, refl, ap, ap₂, _∙_}
 use mathlib.Core.List.{List}
 use native.Mathlib.Omega.{arith}
 use lib.ListN.{length, getD, set, length-set}
 use Rattle.closure.specs.Rows.{join-word}
-use Rattle.closure.proofs.Front.{front, front-none, front-more, front-at, front-length, front-all}
+use Rattle.closure.proofs.Front.{front, front-none, front-more, front-at, front-all}
 use Rattle.closure.proofs.Laws.{joined-through}
 use Rattle.closure.proofs.join_row.Statement.{statement}
 use Rattle.closure.proofs.join_row.Tie as tie

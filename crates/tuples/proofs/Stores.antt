@@ -1,0 +1,117 @@
+-- Runs of stores, `sets l i xs`: no index has to lie within the list.
+use Prim.Native.Nat.{ℕ, zero, suc, _+_, _<_, _≤_}
+use mathlib.Core.Path.{_≡_, refl, sym, ap, _∙_}
+use mathlib.Core.List.{List, [], _∷_, _++_, append-assoc, append-nil}
+use native.Mathlib.Nat.{add-zero, add-suc, suc-add, not-suc-le-zero, le-of-suc-le-suc}
+use native.Mathlib.Omega.{arith}
+use native.Mathlib.Numerals.{add-one}
+use lib.ListN.{length, getD, set, take, drop, length-set, replicate, length-replicate, length-drop, drop-of-length-le, take-append-drop}
+use lib.Seq.{sets, take-suc, take-set-le, getD-set-same, getD-set-other, set-out, length-take-le, sets-eq, set-comm, set-set, take-at, drop-at, drop-drop}
+
+zero-ne-suc : (n : ℕ) → 0 ≡ suc n → ⊥
+zero-ne-suc n e = omega arith
+
+suc-inj : {m n : ℕ} → suc m ≡ suc n → m ≡ n
+suc-inj e = omega arith
+
+module _ {A : Type 0} where
+  pub sets-append : (xs ys l : List A) (i : ℕ) → sets (sets l i xs) (i + length xs) ys ≡ sets l i (xs ++ ys)
+  sets-append [] ys l i = ap (λ (k : ℕ). sets l k ys) (add-zero i)
+  sets-append (a ∷ xs) ys l i =
+      ap (λ (k : ℕ). sets (sets (set l i a) (suc i) xs) k ys) (add-suc i (length xs) ∙ sym (suc-add i (length xs))) ∙ sets-append xs ys (set l i a) (suc i)
+
+  -- one more of a list's elements
+  pub sets-more : (l : List A) (i : ℕ) (s : List A) (w : ℕ) (d : A) → w < length s → set (sets l i (take w s)) (i + w) (getD s w d) ≡ sets l i (take (w + 1) s)
+  sets-more l i s w d h =
+      ap (λ (k : ℕ). set (sets l i (take w s)) (i + k) (getD s w d)) (sym (length-take-le w s (omega arith)))
+      ∙ sets-append (take w s) (getD s w d ∷ []) l i
+      ∙ ap (sets l i) (sym (take-suc s w d h) ∙ ap (λ (k : ℕ). take k s) (sym (add-one w)))
+
+  pub take-sets : (xs l : List A) (i j : ℕ) → j ≤ i → take j (sets l i xs) ≡ take j l
+  take-sets [] l i j h = refl
+  take-sets (a ∷ xs) l i j h = take-sets xs (set l i a) (suc i) j (omega arith) ∙ take-set-le j l i a h
+
+  pub sets-out : (xs l : List A) (i : ℕ) → length l ≤ i → sets l i xs ≡ l
+  sets-out [] l i h = refl
+  sets-out (a ∷ xs) l i h = ap (λ (k : List A). sets k (suc i) xs) (set-out l i a h) ∙ sets-out xs l (suc i) (omega arith)
+
+  pub getD-sets-before : (xs l : List A) (i j : ℕ) (d : A) → j < i → getD (sets l i xs) j d ≡ getD l j d
+  getD-sets-before [] l i j d h = refl
+  getD-sets-before (a ∷ xs) l i j d h = getD-sets-before xs (set l i a) (suc i) j d (omega arith) ∙ getD-set-other l i j a d (λ e. omega arith)
+
+  pub getD-sets-after : (xs l : List A) (i j : ℕ) (d : A) → i + length xs ≤ j → getD (sets l i xs) j d ≡ getD l j d
+  getD-sets-after [] l i j d h = refl
+  getD-sets-after (a ∷ xs) l i j d h = getD-sets-after xs (set l i a) (suc i) j d (omega arith) ∙ getD-set-other l i j a d (λ e. omega arith)
+
+  pub getD-sets-in : (xs l : List A) (i w : ℕ) (d : A) → i + length xs ≤ length l → w < length xs → getD (sets l i xs) (i + w) d ≡ getD xs w d
+  getD-sets-in [] l i w d h k = absurd (not-suc-le-zero k)
+  getD-sets-in (a ∷ xs) l i zero d h k =
+      ap (λ (j : ℕ). getD (sets (set l i a) (suc i) xs) j d) (add-zero i) ∙ getD-sets-before xs (set l i a) (suc i) i d (omega arith) ∙ getD-set-same l i a d (omega arith)
+  getD-sets-in (a ∷ xs) l i (suc w) d h k =
+      ap (λ (j : ℕ). getD (sets (set l i a) (suc i) xs) j d) (add-suc i w ∙ sym (suc-add i w))
+      ∙ getD-sets-in xs (set l i a) (suc i) w d (omega (arith, length-set l i a)) (le-of-suc-le-suc k)
+
+  -- a store beside a run, and a run beside a run
+  pub set-sets : (xs l : List A) (i j : ℕ) (b : A) → j < i → set (sets l i xs) j b ≡ sets (set l j b) i xs
+  set-sets [] l i j b h = refl
+  set-sets (a ∷ xs) l i j b h = set-sets xs (set l i a) (suc i) j b (omega arith) ∙ ap (λ (k : List A). sets k (suc i) xs) (set-comm l i j a b (λ e. omega arith))
+
+  pub sets-comm : (xs ys l : List A) (i j : ℕ) → i + length xs ≤ j → sets (sets l j ys) i xs ≡ sets (sets l i xs) j ys
+  sets-comm [] ys l i j h = refl
+  sets-comm (a ∷ xs) ys l i j h =
+      ap (λ (k : List A). sets k (suc i) xs) (set-sets ys l j i a (omega arith)) ∙ sets-comm xs ys (set l i a) (suc i) j (omega arith)
+
+  -- a run over a run
+  pub sets-over : (xs ys l : List A) (i : ℕ) → length xs ≡ length ys → sets (sets l i xs) i ys ≡ sets l i ys
+  sets-over [] [] l i e = refl
+  sets-over [] (b ∷ ys) l i e = absurd (zero-ne-suc (length ys) e)
+  sets-over (a ∷ xs) [] l i e = absurd (zero-ne-suc (length xs) (sym e))
+  sets-over (a ∷ xs) (b ∷ ys) l i e =
+      ap (λ (k : List A). sets k (suc i) ys) (set-sets xs (set l i a) (suc i) i b (omega arith) ∙ ap (λ (k : List A). sets k (suc i) xs) (set-set l i a b))
+      ∙ sets-over xs ys (set l i b) (suc i) (suc-inj e)
+
+  -- a part read back
+  pub part-sets : (xs l : List A) (i : ℕ) → i + length xs ≤ length l → take (length xs) (drop i (sets l i xs)) ≡ xs
+  part-sets xs l i h =
+      ap (λ (k : List A). take (length xs) (drop i k)) (sets-eq xs l i h ∙ append-assoc (take i l) xs (drop (i + length xs) l))
+      ∙ ap (take (length xs)) (drop-at (take i l) (xs ++ drop (i + length xs) l) i (length-take-le i l (omega arith)))
+      ∙ take-at xs (drop (i + length xs) l) (length xs) refl
+
+  pub sets-whole : (xs l : List A) → length xs ≡ length l → sets l 0 xs ≡ xs
+  sets-whole xs l e =
+      sets-eq xs l 0 (omega arith) ∙ ap (λ (k : List A). xs ++ k) (drop-of-length-le l {i = 0 + length xs} (omega arith)) ∙ append-nil xs
+
+  -- a part put back as it was
+  pub sets-same : (l : List A) (i n : ℕ) → i + n ≤ length l → sets l i (take n (drop i l)) ≡ l
+  sets-same l i n h =
+      sets-eq (take n (drop i l)) l i (omega (arith, len))
+      ∙ append-assoc (take i l) (take n (drop i l)) (drop (i + length (take n (drop i l))) l)
+      ∙ ap (λ (k : List A). take i l ++ k) (ap (λ (m : ℕ). take n (drop i l) ++ drop (i + m) l) len ∙ ap (λ (k : List A). take n (drop i l) ++ k) (sym (drop-drop n i l)) ∙ take-append-drop n (drop i l))
+      ∙ take-append-drop i l
+    where
+      len : length (take n (drop i l)) ≡ n
+      len = length-take-le n (drop i l) (omega (arith, length-drop i l))
+
+-- a table that was made beyond its place, moved there, and cleared
+pub moved : (l T : List ℕ) (off scr n : ℕ) → length T ≡ n → off + n ≤ scr → scr + n ≤ length l
+    → sets (sets (sets l scr T) off (take n (drop scr (sets l scr T)))) scr (replicate n 0) ≡ sets (sets l off T) scr (replicate n 0)
+moved l T off scr n e h k =
+    ap (λ (x : List ℕ). sets (sets (sets l scr T) off x) scr (replicate n 0))
+    (ap (λ (m : ℕ). take m (drop scr (sets l scr T))) (sym e) ∙ part-sets T l scr (omega arith))
+    ∙ ap (λ (x : List ℕ). sets x scr (replicate n 0)) (sets-comm T T l off scr (omega arith))
+    ∙ sets-over T (replicate n 0) (sets l off T) scr (e ∙ sym (length-replicate n 0))
+
+-- where the words there were zero before, nothing else has changed
+pub moved-zero : (l T : List ℕ) (off scr n : ℕ) → length T ≡ n → off + n ≤ scr → scr + n ≤ length l → take n (drop scr l) ≡ replicate n 0
+    → sets (sets l off T) scr (replicate n 0) ≡ sets l off T
+moved-zero l T off scr n e h k z =
+    sym (sets-comm T (replicate n 0) l off scr (omega arith))
+    ∙ ap (λ (x : List ℕ). sets x off T) (ap (sets l scr) (sym z) ∙ sets-same l scr n k)
+
+-- one element of a run
+pub sets-set : (xs l : List ℕ) (i w v : ℕ) → w < length xs → sets l i (set xs w v) ≡ set (sets l i xs) (i + w) v
+sets-set [] l i w v h = absurd (not-suc-le-zero h)
+sets-set (a ∷ xs) l i zero v h =
+    sym (ap (λ (k : ℕ). set (sets (set l i a) (suc i) xs) k v) (add-zero i) ∙ set-sets xs (set l i a) (suc i) i v (omega arith) ∙ ap (λ (k : List ℕ). sets k (suc i) xs) (set-set l i a v))
+sets-set (a ∷ xs) l i (suc w) v h =
+    sets-set xs (set l i a) (suc i) w v (le-of-suc-le-suc h) ∙ ap (λ (k : ℕ). set (sets (set l i a) (suc i) xs) k v) (suc-add i w ∙ sym (add-suc i w))

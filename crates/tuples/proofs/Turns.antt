@@ -1,0 +1,102 @@
+-- A tuple's word, bit and digits, one element a turn.
+use Prim.Native.Nat.{ℕ, zero, suc, _+_, _-_, _*_, _/_, _%_, _^_, _<_, _≤_}
+use mathlib.Core.Path.{_≡_, refl, sym, ap, ap₂, _∙_}
+use mathlib.Core.List.{List, [], _∷_, _++_, append-assoc, append-nil}
+use native.Mathlib.Nat.{mul-comm, pow-suc, not-suc-le-zero, le-of-suc-le-suc, zero-mul, mul-le-mul-left, lt-of-le-of-lt, zero-lt-suc}
+use native.Mathlib.Omega.{arith}
+use native.Mathlib.Numerals.{add-one}
+use lib.Arith.{digits-lt}
+use lib.ListN.{length, getD, set, take, drop, length-set}
+use lib.Seq.{drop-cons, getD-set-same, drop-set-lt}
+use Rattle.tuples.specs.Places.{digits, word-at, bit-at}
+
+pub bit-last : (n : ℕ) (t : List ℕ) → n < length t → getD t n 0 ≡ bit-at (take (suc n) t)
+bit-last n [] h = absurd (not-suc-le-zero h)
+bit-last zero (a ∷ t) h = refl
+bit-last (suc n) (a ∷ []) h = absurd (not-suc-le-zero (le-of-suc-le-suc h))
+bit-last (suc n) (a ∷ b ∷ t) h = bit-last n (b ∷ t) (le-of-suc-le-suc h)
+
+-- two elements or more are left
+pub word-step : (u w k n : ℕ) (t : List ℕ) → k + 1 < n → n ≤ length t
+    → word-at u w (take (n - k) (drop k t)) ≡ word-at u (u * w + getD t k 0) (take (n - (k + 1)) (drop (k + 1) t))
+word-step u w k n t h l =
+    ap₂ (λ (m : ℕ) (s : List ℕ). word-at u w (take m s)) m₁ (drop-cons t k 0 (omega arith) ∙ ap (λ (s : List ℕ). getD t k 0 ∷ s) d)
+    ∙ ap₂ (λ (m : ℕ) (s : List ℕ). word-at u (u * w + getD t k 0) (take m s)) (sym m₂) (sym d ∙ ap (λ (j : ℕ). drop j t) (sym (add-one k)))
+  where
+    m₁ : n - k ≡ suc (suc (n - (k + 2)))
+    m₁ = omega arith
+
+    m₂ : n - (k + 1) ≡ suc (n - (k + 2))
+    m₂ = omega arith
+
+    d : drop (suc k) t ≡ getD t (suc k) 0 ∷ drop (suc (suc k)) t
+    d = drop-cons t (suc k) 0 (omega arith)
+
+-- one is left, or none
+few : (u w m : ℕ) (s : List ℕ) → m ≤ 1 → word-at u w (take m s) ≡ w
+few u w zero s h = refl
+few u w (suc zero) [] h = refl
+few u w (suc zero) (a ∷ s) h = refl
+few u w (suc (suc m)) s h = absurd (not-suc-le-zero (le-of-suc-le-suc h))
+
+pub word-end : (u w k n : ℕ) (t : List ℕ) → n ≤ k + 1 → word-at u w (take (n - k) (drop k t)) ≡ w
+word-end u w k n t h = few u w (n - k) (drop k t) (omega arith)
+
+pub step-lt : (u w k a : ℕ) → u < 256 → w < 256 ^ k → a < 256 → u * w + a < 256 ^ (k + 1)
+step-lt u w k a h l m = rw (add-one, pow-suc) (lt-of-le-of-lt le (digits-lt l m))
+  where
+    le256 : w * u ≤ w * 256
+    le256 = mul-le-mul-left w (omega arith)
+
+    le : u * w + a ≤ w * 256 + a
+    le = omega (arith, mul-comm u w, le256)
+
+-- the digits left to find, and those found
+pub digit-step : (u k m rest : ℕ) (t : List ℕ) → k < length t
+    → digits u (suc k) rest ++ take m (drop (suc k) t) ≡ digits u k (rest / u) ++ take (suc m) (drop k (set t k (rest % u)))
+unfolding digits
+digit-step u k m rest t h =
+    append-assoc (digits u k (rest / u)) (rest % u ∷ []) (take m (drop (suc k) t))
+    ∙ ap (λ (s : List ℕ). digits u k (rest / u) ++ take (suc m) s) (sym d)
+  where
+    d : drop k (set t k (rest % u)) ≡ rest % u ∷ drop (suc k) t
+    d = drop-cons (set t k (rest % u)) k 0 (rw length-set h) ∙ ap₂ _∷_ (getD-set-same t k (rest % u) 0 h) (drop-set-lt (suc k) t k (rest % u) (omega arith))
+
+pub digits-whole : (u n i : ℕ) (t : List ℕ) → digits u n i ++ take (n - n) (drop n t) ≡ digits u n i
+digits-whole u n i t = ap (λ (m : ℕ). digits u n i ++ take m (drop n t)) z ∙ append-nil (digits u n i)
+  where
+    z : n - n ≡ 0
+    z = omega arith
+
+pub digits-none : (u k n rest : ℕ) (t : List ℕ) → k ≡ 0 → digits u k rest ++ take (n - k) (drop k t) ≡ take n t
+unfolding digits
+digits-none u k n rest t e =
+    ap (λ (j : ℕ). digits u j rest ++ take (n - j) (drop j t)) e ∙ ap (λ (m : ℕ). take m t) z
+  where
+    z : n - 0 ≡ n
+    z = omega arith
+
+pub base-pos : (u n i : ℕ) → i < u ^ n → 0 < n → 0 < u
+base-pos zero zero i h l = absurd (not-suc-le-zero l)
+base-pos zero (suc n) i h l = absurd (not-suc-le-zero (rw (pow-suc, mul-comm, zero-mul) at h))
+base-pos (suc u) n i h l = zero-lt-suc u
+
+-- what a loop over the first n elements has left at k
+pub rest-cons : (n k : ℕ) (l : List ℕ) → k < n → n ≤ length l → take (n - k) (drop k l) ≡ getD l k 0 ∷ take (n - (k + 1)) (drop (k + 1) l)
+rest-cons n k l h m =
+    ap₂ take e (drop-cons l k 0 (omega arith)) ∙ ap (λ (j : ℕ). getD l k 0 ∷ take (n - (k + 1)) (drop j l)) (sym (add-one k))
+  where
+    e : n - k ≡ suc (n - (k + 1))
+    e = omega arith
+
+pub rest-none : (n k : ℕ) (l : List ℕ) → n ≤ k → take (n - k) (drop k l) ≡ []
+rest-none n k l h = ap (λ (j : ℕ). take j (drop k l)) e
+  where
+    e : n - k ≡ 0
+    e = omega arith
+
+pub rest-all : (n : ℕ) (l : List ℕ) → take (n - 0) (drop 0 l) ≡ take n l
+rest-all n l = ap (λ (j : ℕ). take j l) e
+  where
+    e : n - 0 ≡ n
+    e = omega arith
