@@ -1,0 +1,5 @@
+-- Laws over plain lists that the proofs of this crate, and of crates above it, cite.
+pub mod OrderLaws
+pub mod RunLaws
+pub mod WordTable
+pub mod NameLaws

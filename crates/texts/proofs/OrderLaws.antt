@@ -1,0 +1,60 @@
+-- How the order and the equality of two texts go on at one place of both.
+use Prim.Native.Nat.{ℕ, suc, _+_, _<_, _≤_}
+use mathlib.Core.Path.{_≡_, refl, sym, ap, _∙_}
+use mathlib.Core.List.{List, [], _∷_}
+use mathlib.Core.Bool.{Bool, true, false, _&&_}
+use native.Mathlib.Numerals.{add-one}
+use native.Mathlib.Omega.{arith}
+use lib.Dec.{eqb}
+use lib.ListN.{length, getD, drop, drop-of-length-le}
+use lib.Seq.{drop-cons}
+use borrow.Author.Tests.{lt-ltb, le-ltb, eq-eqb, ne-eqb}
+use Rattle.definition.specs.Text.{Text, same, earlier}
+use Rattle.texts.specs.Orders.{order}
+use Rattle.texts.specs.declared.Order.the-variants.{Before, Same, After}
+
+module _ (s t : Text) (i : ℕ) where
+  pub order-less : i < length s → i < length t → getD s i 0 < getD t i 0 → order (drop i s) (drop i t) ≡ Before
+  unfolding order same earlier
+  order-less hs ht h = rw (drop-cons s i 0, drop-cons t i 0, ne-eqb (getD s i 0) (getD t i 0) (λ e. omega arith), lt-ltb (getD s i 0) (getD t i 0))
+
+  pub order-greater : i < length s → i < length t → getD t i 0 < getD s i 0 → order (drop i s) (drop i t) ≡ After
+  unfolding order same earlier
+  order-greater hs ht h =
+      let g : getD t i 0 ≤ getD s i 0 = omega arith in
+      rw (drop-cons s i 0, drop-cons t i 0, ne-eqb (getD s i 0) (getD t i 0) (λ e. omega arith), le-ltb (getD s i 0) (getD t i 0))
+
+  pub order-equal : i < length s → i < length t → getD s i 0 ≡ getD t i 0 → order (drop i s) (drop i t) ≡ order (drop (i + 1) s) (drop (i + 1) t)
+  unfolding order same earlier
+  order-equal hs ht h = rw (drop-cons s i 0, drop-cons t i 0, eq-eqb (getD s i 0) (getD t i 0) h, add-one)
+
+  pub order-after : i < length s → length t ≤ i → order (drop i s) (drop i t) ≡ After
+  unfolding order same earlier
+  order-after hs ht = rw (drop-cons s i 0, drop-of-length-le t)
+
+  pub order-before : length s ≤ i → i < length t → order (drop i s) (drop i t) ≡ Before
+  unfolding order same earlier
+  order-before hs ht = rw (drop-of-length-le s, drop-cons t i 0)
+
+  pub order-same : length s ≤ i → length t ≤ i → order (drop i s) (drop i t) ≡ Same
+  unfolding order same earlier
+  order-same hs ht = rw (drop-of-length-le s, drop-of-length-le t)
+
+  pub same-step : i < length s → i < length t → same (drop i s) (drop i t) ≡ eqb (getD s i 0) (getD t i 0) && same (drop (i + 1) s) (drop (i + 1) t)
+  unfolding same
+  same-step hs ht = rw (drop-cons s i 0, drop-cons t i 0, add-one)
+
+  pub same-end : length s ≤ i → length t ≤ i → same (drop i s) (drop i t) ≡ true
+  unfolding same
+  same-end hs ht = rw (drop-of-length-le s, drop-of-length-le t)
+
+and-false : (b : Bool) → b && false ≡ false
+and-false true = refl
+and-false false = refl
+
+pub same-length : (s t : Text) → (length s ≡ length t → ⊥) → same s t ≡ false
+unfolding same
+same-length [] [] h = absurd (h refl)
+same-length [] (y ∷ ys) h = refl
+same-length (x ∷ xs) [] h = refl
+same-length (x ∷ xs) (y ∷ ys) h = rw (same-length xs ys (λ e. h (rw e))) (and-false (eqb x y))

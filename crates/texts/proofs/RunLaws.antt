@@ -1,0 +1,53 @@
+-- How a run of bytes that pass a test goes on at one place, and what is known of its end.
+use Prim.Native.Nat.{ℕ, zero, suc, _+_, _<_, _≤_}
+use mathlib.Core.Path.{_≡_, refl, sym, ap, _∙_}
+use mathlib.Core.List.{List, [], _∷_}
+use mathlib.Core.Bool.{Bool, true, false, _&&_, cond}
+use native.Mathlib.Numerals.{add-one}
+use native.Mathlib.Omega.{arith}
+use lib.Dec.{eqb, ltb}
+use lib.ListN.{length, getD, drop, drop-of-length-le}
+use lib.Seq.{drop-cons}
+use borrow.Author.Tests.{eq-eqb, ne-eqb, le-ltb, lt-ltb}
+use Rattle.definition.specs.Text.{Text, span, all-of}
+
+module _ (p : ℕ → Bool) where
+  pub run-step : (s : Text) (i : ℕ) → i < length s → p (getD s i 0) ≡ true → i + span p (drop i s) ≡ (i + 1) + span p (drop (i + 1) s)
+  unfolding span
+  run-step s i h e = rw (drop-cons s i 0, e, add-one) (omega arith)
+
+  pub run-stop : (s : Text) (i : ℕ) → i < length s → p (getD s i 0) ≡ false → i + span p (drop i s) ≡ i
+  unfolding span
+  run-stop s i h e = rw (drop-cons s i 0, e) (omega arith)
+
+  pub run-out : (s : Text) (i : ℕ) → length s ≤ i → i + span p (drop i s) ≡ i
+  unfolding span
+  run-out s i h = rw (drop-of-length-le s) (omega arith)
+
+  pub span-within : (s : Text) → span p s ≤ length s
+  unfolding span
+  span-within [] = omega arith
+  span-within (x ∷ xs) = go (p x) (span-within xs)
+    where
+      go : (b : Bool) → span p xs ≤ length xs → cond b (suc (span p xs)) 0 ≤ suc (length xs)
+      go true h = omega arith
+      go false h = omega arith
+
+  -- all bytes pass if the run is all there is
+  pub all-span : (s : Text) → span p s ≡ length s → all-of p s ≡ true
+  unfolding span all-of
+  all-span [] h = refl
+  all-span (x ∷ xs) h = go (p x) h (all-span xs)
+    where
+      go : (b : Bool) → cond b (suc (span p xs)) 0 ≡ suc (length xs) → (span p xs ≡ length xs → all-of p xs ≡ true) → b && all-of p xs ≡ true
+      go true e ih = ih (omega arith)
+      go false e ih = absurd (omega arith)
+
+  pub not-all-span : (s : Text) → span p s < length s → all-of p s ≡ false
+  unfolding span all-of
+  not-all-span [] h = absurd (omega arith)
+  not-all-span (x ∷ xs) h = go (p x) h (not-all-span xs)
+    where
+      go : (b : Bool) → cond b (suc (span p xs)) 0 < suc (length xs) → (span p xs < length xs → all-of p xs ≡ false) → b && all-of p xs ≡ false
+      go true e ih = ih (omega arith)
+      go false e ih = refl
