@@ -71,12 +71,12 @@ loop-again c =
 returns-4 : tie.Need-returns-4 Inv-loop μ-loop
 returns-4 c =
     let l = c .before .before in
-    sym (l .loop .inv .2 ∙ order-before _ _ (l .loop .i) (c .before .loop-test .left) (c .if4 .taken))
+    sym (l .loop .inv .2 ∙ order-before _ _ (l .loop .i) (c .before .loop-test .left) (omega (arith, c .if4 .taken)))
 
 returns-5 : tie.Need-returns-5 Inv-loop μ-loop
 returns-5 c =
     let l = c .before .before in
-    sym (l .loop .inv .2 ∙ order-same _ _ (l .loop .i) (c .before .loop-test .left) (c .if4 .left))
+    sym (l .loop .inv .2 ∙ order-same _ _ (l .loop .i) (c .before .loop-test .left) (omega (arith, c .if4 .left)))
 
 pub compare-spec : {M : Type 1} → statement M
 compare-spec =

@@ -31,7 +31,7 @@ array-read-n c = omega arith
 
 add-e : tie.Need-add-e Inv-loop μ-loop
 unfolding lengths
-add-e c = omega (arith, row-short (c .before .loop .k) (c .loop-test .taken))
+add-e c = omega (arith, row-short (c .before .loop .k) (omega arith))
 
 sub-same : tie.Need-sub-same Inv-loop μ-loop
 unfolding lengths
@@ -43,7 +43,7 @@ part-same-start c = omega arith
 
 part-same-end : tie.Need-part-same-end Inv-loop μ-loop
 unfolding lengths
-part-same-end c = omega (arith, row-short (c .before .before .loop .k) (c .before .loop-test .taken))
+part-same-end c = omega (arith, row-short (c .before .before .loop .k) (omega arith))
 
 same-requires : tie.Need-same-requires Inv-loop μ-loop
 same-requires c κs = search needs
@@ -56,10 +56,10 @@ compared c =
     let p = c .before .before .before in
     c .same .ensures
     ∙ ap (λ (l : Text). same l (now (p .before .before .before .args .w)))
-    (ap (λ (n : ℕ). take n (drop (p .before .loop .k * 7) letters)) (add-sub-cancel-left (p .before .loop .k * 7) _) ∙ row-word (p .before .loop .k) (p .loop-test .taken))
+    (ap (λ (n : ℕ). take n (drop (p .before .loop .k * 7) letters)) (add-sub-cancel-left (p .before .loop .k * 7) _) ∙ row-word (p .before .loop .k) (omega (arith, p .loop-test .taken)))
 
 returns : tie.Need-returns Inv-loop μ-loop
-returns c = let p = c .before .before .before .before in let f = search-found _ _ (p .loop-test .taken) (p .before .loop .inv .1) (sym (compared (c .before)) ∙ c .if1 .taken) in (f .0, (f .1, p .loop-test .taken))
+returns c = let p = c .before .before .before .before in let f = search-found _ (p .before .loop .k) (omega (arith, p .loop-test .taken)) (p .before .loop .inv .1) (sym (compared (c .before)) ∙ c .if1 .taken) in (f .0, (f .1, omega (arith, p .loop-test .taken)))
 
 add-k : tie.Need-add-k Inv-loop μ-loop
 add-k c = omega arith
@@ -68,10 +68,10 @@ loop-less : tie.Need-loop-less Inv-loop μ-loop
 loop-less c = omega arith
 
 loop-again : tie.Need-loop-again Inv-loop μ-loop
-loop-again c = let p = c .before .before .before .before in (omega arith, search-next _ _ (p .loop-test .taken) (p .before .loop .inv .1) (sym (compared (c .before)) ∙ c .if1 .left))
+loop-again c = let p = c .before .before .before .before in (omega arith, search-next _ (p .before .loop .k) (omega (arith, p .loop-test .taken)) (p .before .loop .inv .1) (sym (compared (c .before)) ∙ c .if1 .left))
 
 returns-2 : tie.Need-returns-2 Inv-loop μ-loop
-returns-2 c = let f = search-end _ _ (c .loop-test .left) (c .before .loop .inv .1) in (f .0, (f .1, omega arith))
+returns-2 c = let f = search-end _ (c .before .loop .k) (omega arith) (c .before .loop .inv .1) in (f .0, (f .1, omega arith))
 
 pub reserved-word-spec : {M : Type 1} → statement M
 reserved-word-spec =
