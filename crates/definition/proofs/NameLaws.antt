@@ -8,13 +8,12 @@ use native.Mathlib.Nat.{zero-add}
 use native.Mathlib.Omega.{arith}
 use lib.Dec.{T, eqb, ltb, leb, eqb→eq, not-T}
 use lib.ListN.{length, getD}
-use Rattle.definition.specs.Text.{if_then_else_, Text, same}
+use Rattle.definition.specs.Text.{Text, same}
 use Rattle.definition.specs.Limits.{Limits, ARITY}
 use Rattle.definition.specs.Token.{Token}
-use Rattle.definition.specs.Syntax.{Term, name, string, anything}
 use Rattle.definition.specs.Answer.{Answer, ok, refused, _>>=_, refuse-if}
 use Rattle.definition.specs.Facts.{Relation, add-relation}
-use Rattle.definition.specs.Names.{Role, before-terms, attribute-only, term, variable-only, after-for, enter, leave, Use, use-as, in-terms, Known, nothing, attribute, variable, open-variable, relation, Rule, becomes, first, row, rule, Kinds, learn, follow, use-name, use-names, numbered, fact-kinds, is-variable}
+use Rattle.definition.specs.Names.{Role, before-terms, attribute-only, term, variable-only, after-for, enter, leave, Use, use-as, Known, nothing, attribute, variable, open-variable, relation, Rule, becomes, first, row, rule, Kinds, learn, follow, use-name, use-names, numbered, fact-kinds, is-variable}
 use Rattle.definition.proofs.BoolLaws.{decide, is-true, is-false}
 use Rattle.definition.proofs.MeaningLaws.{same-eq, same-refl}
 use Rattle.definition.proofs.RelationLaws.{place-of, no-relation}
@@ -159,22 +158,27 @@ relation-added limits q rs qs e = ok-injective (then-ok (refuse-if (leb (limits 
 
 -- what one use does: an update of what is known, and the relation that it adds
 pub data Used (k : Kinds) (p : Role) (t : Token) : Kinds → Type 0 where
-  kept : (v : Known) → Keeps (k .known (t .text)) v → Fits p v → as-relation v ≡ as-relation (k .known (t .text))
-      → Used k p t (record { known = learn (t .text) v (k .known); relations = k .relations })
-  added : (n : ℕ) → k .known (t .text) ≡ nothing → p ≡ before-terms n
+  kept : (v : Known) → rule p (k .known (t .text)) ≡ becomes v → Used k p t (record { known = learn (t .text) v (k .known); relations = k .relations })
+  added : (n : ℕ) → rule p (k .known (t .text)) ≡ first n
       → Used k p t (record { known = learn (t .text) (relation (length (k .relations)) n) (k .known); relations = k .relations ++ (new-relation t n ∷ []) })
 
 pub used : (limits : Limits) (k : Kinds) (p : Role) (t : Token) (l : Kinds) → use-name limits k (use-as p t) ≡ ok l → Used k p t l
 unfolding use-name
-used limits k p t l e = go (rule p (k .known (t .text))) (rule-right p (k .known (t .text))) e
+used limits k p t l e = go (rule p (k .known (t .text))) refl e
   where
-    go : (r : Rule) → Right p (k .known (t .text)) r → follow limits k t r ≡ ok l → Used k p t l
-    go (becomes v) (g, h, i) e = subst (Used k p t) (ok-injective e) (kept v g h i)
+    go : (r : Rule) → rule p (k .known (t .text)) ≡ r → follow limits k t r ≡ ok l → Used k p t l
+    go (becomes v) g e = subst (Used k p t) (ok-injective e) (kept v g)
     go (row r) g e = absurd (let z : _≡_ {A = ℕ} 0 1 = cc in omega arith)
-    go (first n) (g, h) e =
+    go (first n) g e =
         let (rs, p₁, q₁) = bind-ok (add-relation limits (new-relation t n) (k .relations)) _ l e in
         let p₂ : k .relations ++ (new-relation t n ∷ []) ≡ rs = relation-added limits (new-relation t n) (k .relations) rs p₁ in
-        subst (Used k p t) (ok-injective q₁) (subst (λ qs. Used k p t (record { known = learn (t .text) (relation (length (k .relations)) n) (k .known); relations = qs })) p₂ (added n g h))
+        subst (Used k p t) (ok-injective q₁) (subst (λ qs. Used k p t (record { known = learn (t .text) (relation (length (k .relations)) n) (k .known); relations = qs })) p₂ (added n g))
+
+becomes-right : (p : Role) (v w : Known) → rule p v ≡ becomes w → Right p v (becomes w)
+becomes-right p v w e = subst (Right p v) e (rule-right p v)
+
+first-right : (p : Role) (v : Known) (n : ℕ) → rule p v ≡ first n → Right p v (first n)
+first-right p v n e = subst (Right p v) e (rule-right p v)
 
 -- of a name that is not used nothing changes, and of the name used its kind is kept
 learn-keeps : (known : Text → Known) (x : Text) (v : Known) → Keeps (known x) v → (y : Text) → Keeps (known y) (learn x v known y)
@@ -185,14 +189,16 @@ learn-keeps known x v h y = go (decide (same x y))
     go (inr n) = subst (Keeps (known y)) (sym (learn-other x y v known n)) (keeps-itself (known y))
 
 used-keeps : {k : Kinds} {p : Role} {t : Token} {l : Kinds} → Used k p t l → (y : Text) → Keeps (k .known y) (l .known y)
-used-keeps {k} {p} {t} (kept v g h i) y = learn-keeps (k .known) (t .text) v g y
-used-keeps {k} {p} {t} (added n g h) y = learn-keeps (k .known) (t .text) (relation (length (k .relations)) n) (subst (λ z. Keeps z (relation (length (k .relations)) n)) (sym g) tt) y
+used-keeps {k} {p} {t} (kept v e) y = learn-keeps (k .known) (t .text) v (becomes-right p (k .known (t .text)) v e .0) y
+used-keeps {k} {p} {t} (added n e) y =
+    let new = relation (length (k .relations)) n in
+    learn-keeps (k .known) (t .text) new (subst (λ z. Keeps z new) (sym (first-right p (k .known (t .text)) n e .0)) tt) y
 
 used-fits : {k : Kinds} {p : Role} {t : Token} {l : Kinds} → Used k p t l → Fits p (l .known (t .text))
-used-fits {k} {p} {t} (kept v g h i) = subst (Fits p) (sym (learn-here (t .text) v (k .known))) h
-used-fits {k} {p} {t} (added n g h) =
+used-fits {k} {p} {t} (kept v e) = subst (Fits p) (sym (learn-here (t .text) v (k .known))) (becomes-right p (k .known (t .text)) v e .1)
+used-fits {k} {p} {t} (added n e) =
     let w = relation (length (k .relations)) n in
-    subst (λ q. Fits q (learn (t .text) w (k .known) (t .text))) (sym h) (length (k .relations), learn-here (t .text) w (k .known))
+    subst (λ q. Fits q (learn (t .text) w (k .known) (t .text))) (sym (first-right p (k .known (t .text)) n e .1)) (length (k .relations), learn-here (t .text) w (k .known))
 
 -- "One name has one kind throughout": what is known is kept by all uses
 pub names-keep : (limits : Limits) (us : List Use) (k l : Kinds) → use-names limits us k ≡ ok l → (y : Text) → Keeps (k .known y) (l .known y)
@@ -268,7 +274,7 @@ pub record Numbered (k : Kinds) : Type 0 where
   pub by-place : (x : Text) → as-relation (k .known x) ≡ numbered 0 (k .relations) x
 
 used-numbered : {k : Kinds} {p : Role} {t : Token} {l : Kinds} → Used k p t l → Numbered k → Numbered l
-used-numbered {k} {p} {t} (kept v g h i) n = record { by-place = λ y. go y (decide (same (t .text) y)) }
+used-numbered {k} {p} {t} (kept v e) n = record { by-place = λ y. go y (decide (same (t .text) y)) }
   where
     x : Text
     x = t .text
@@ -276,9 +282,9 @@ used-numbered {k} {p} {t} (kept v g h i) n = record { by-place = λ y. go y (dec
     go : (y : Text) → T (same x y) ⊎ T (not (same x y)) → as-relation (learn x v (k .known) y) ≡ numbered 0 (k .relations) y
     go y (inl s) =
         subst (λ z. as-relation (learn x v (k .known) z) ≡ numbered 0 (k .relations) z) (same-eq x y s)
-        (ap as-relation (learn-here x v (k .known)) ∙ i ∙ n .by-place x)
+        (ap as-relation (learn-here x v (k .known)) ∙ becomes-right p (k .known x) v e .2 ∙ n .by-place x)
     go y (inr m) = ap as-relation (learn-other x y v (k .known) m) ∙ n .by-place y
-used-numbered {k} {p} {t} (added c g h) n = record { by-place = λ y. go y (decide (same (t .text) y)) }
+used-numbered {k} {p} {t} (added c e) n = record { by-place = λ y. go y (decide (same (t .text) y)) }
   where
     x : Text
     x = t .text
@@ -290,7 +296,7 @@ used-numbered {k} {p} {t} (added c g h) n = record { by-place = λ y. go y (deci
     v = relation (length (k .relations)) c
 
     fresh : numbered 0 (k .relations) x ≡ nothing
-    fresh = sym (n .by-place x) ∙ ap as-relation g
+    fresh = sym (n .by-place x) ∙ ap as-relation (first-right p (k .known x) c e .0)
 
     last : numbered 0 (k .relations ++ (q ∷ [])) x ≡ v
     last = numbered-new 0 (k .relations) q fresh ∙ ap (λ j. relation j c) (zero-add (length (k .relations)))
