@@ -20,7 +20,7 @@ use Rattle.definition.proofs.AcceptLaws.{ok-injective, bind-ok}
 use Rattle.definition.proofs.NameLaws.{learn-here, learn-other, Used, kept, added, used, names-append}
 
 -- the roles of names in expressions and items
-abbrev pub plain : Role → Bool
+abbrev plain : Role → Bool
 plain (before-terms n) = true
 plain attribute-only = true
 plain term = true

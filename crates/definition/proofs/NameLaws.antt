@@ -1,5 +1,5 @@
 -- Laws of names: a name keeps its kind, each use fits what is known in the end, and relations are numbered in the store's order.
-use mathlib.Core.Path.{_≡_, refl, sym, ap, subst, _∙_, fun-ext}
+use mathlib.Core.Path.{_≡_, refl, sym, ap, subst, _∙_}
 use mathlib.Core.Logic.{_⊎_, inl, inr}
 use mathlib.Core.Bool.{Bool, true, false, not, cond}
 use mathlib.Core.List.{List, [], _∷_, _++_}
@@ -30,14 +30,6 @@ learn-other x y v known n = rw (is-false (same x y) n)
 
 turned : (x y : Text) → T (not (same x y)) → T (not (same y x))
 turned x y n = not-T (same y x) (λ s. rw (same-eq y x s, is-true (same x x) (same-refl x)) at n)
-
--- to learn what is known changes nothing
-pub learn-known : (x : Text) (v : Known) (known : Text → Known) → known x ≡ v → learn x v known ≡ known
-learn-known x v known e = fun-ext λ y. go y (decide (same x y))
-  where
-    go : (y : Text) → T (same x y) ⊎ T (not (same x y)) → learn x v known y ≡ known y
-    go y (inl s) = subst (λ z. learn x v known z ≡ known z) (same-eq x y s) (learn-here x v known ∙ sym e)
-    go y (inr n) = learn-other x y v known n
 
 -- what may become of what is known: a kind is kept, and a relation's number and arity
 abbrev pub Keeps : Known → Known → Type 0
