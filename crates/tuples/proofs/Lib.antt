@@ -4,3 +4,5 @@ pub mod Tables
 pub mod Lists
 pub mod Turns
 pub mod Stores
+pub mod Images
+pub mod Loading

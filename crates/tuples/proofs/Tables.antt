@@ -16,7 +16,7 @@ use borrow.Rule.Slice.PartMut.{putMid}
 use Rattle.bits.specs.Bits.{with-bit}
 use Rattle.bits.proofs.Laws.{bit-with, with-lt, word-bit, word-ext, word-lt, word-same, bit-none}
 use lib.Pow.{pow-pos}
-use Rattle.definition.specs.Text.{same, some-of}
+use Rattle.definition.specs.Text.{same}
 use Rattle.definition.specs.Tables.{Tuple, bit, word, holds-from, holds, table, table-words}
 use Rattle.definition.proofs.TableLaws.{length-table, Below}
 use Rattle.definition.proofs.MeaningLaws.{same-eq, same-refl}
@@ -248,7 +248,7 @@ pub width-at : (u n : ℕ) → (n ≡ 0 → ⊥) → u ≡ width u n
 width-at u zero h = absurd (h refl)
 width-at u (suc n) h = refl
 
--- loading: the table of no fact, and of one fact more, whose tuple is s
+-- words that are zero are the table of no tuple
 none-of : (n : ℕ) → word n 0 (λ (b : ℕ). false) ≡ 0
 none-of n = sym (word-ext n 0 (λ b. false) (pow-pos n) (λ i l. bit-none i))
 
@@ -256,36 +256,6 @@ pub table-none : (u n : ℕ) → replicate (table-words u n) 0 ≡ table u n (λ
 table-none u n =
     words-table u n (λ t. false) (replicate (table-words u n) 0) (length-replicate (table-words u n) 0)
     (λ w l. getD-replicate (table-words u n) w 0 0 l ∙ sym (none-of (width u n)))
-
-pub load-fact : (u : ℕ) → u ≤ 64 → (f p : Tuple → Bool) (s : Tuple) → Below u s → ((t : Tuple) → length t ≡ length s → Below u t → same t s ≡ p t)
-    → with-tuple u (table u (length s) f) s ≡ table u (length s) (λ t. f t || p t)
-load-fact u v f p s h e = insert-table u s h v f ∙ table-same u (length s) (λ t. f t || same t s) (λ t. f t || p t) (λ t l b. ap (λ (x : Bool). f t || x) (e t l b))
-
--- tuples added one after the other
-abbrev pub loads : ℕ → List ℕ → List Tuple → List ℕ
-loads u ws [] = ws
-loads u ws (s ∷ ss) = loads u (with-tuple u ws s) ss
-
-abbrev pub AllIn : ℕ → ℕ → List Tuple → Type 0
-AllIn u n [] = Unit {0}
-AllIn u n (s ∷ ss) = (length s ≡ n) × Below u s × AllIn u n ss
-
-or-assoc : (a b c : Bool) → (a || b) || c ≡ a || (b || c)
-or-assoc true b c = refl
-or-assoc false b c = refl
-
-pub loads-table : (u n : ℕ) → u ≤ 64 → (ss : List Tuple) (f : Tuple → Bool) → AllIn u n ss → loads u (table u n f) ss ≡ table u n (λ t. f t || some-of (same t) ss)
-unfolding some-of
-loads-table u n v [] f h = table-same u n f (λ t. f t || false) (λ t l b. sym (or-false (f t)))
-loads-table u n v (s ∷ ss) f h =
-    ap (λ (ws : List ℕ). loads u ws ss)
-    (ap (λ (m : ℕ). with-tuple u (table u m f) s) (sym (h .0)) ∙ insert-table u s (h .1) v f ∙ ap (λ (m : ℕ). table u m (λ t. f t || same t s)) (h .0))
-    ∙ loads-table u n v ss (λ t. f t || same t s) (h .2)
-    ∙ table-same u n (λ t. (f t || same t s) || some-of (same t) ss) (λ t. f t || (same t s || some-of (same t) ss)) (λ t l b. or-assoc (f t) (same t s) (some-of (same t) ss))
-
--- from words that are zero
-pub loaded-table : (u n : ℕ) → u ≤ 64 → (ss : List Tuple) → AllIn u n ss → loads u (replicate (table-words u n) 0) ss ≡ table u n (λ t. some-of (same t) ss)
-loaded-table u n v ss h = ap (λ (ws : List ℕ). loads u ws ss) (table-none u n) ∙ loads-table u n v ss (λ t. false) h
 
 -- one word of a lent part
 pub part-set : (l : List ℕ) (off n w v : ℕ) → off + n ≤ length l → w < n → putMid off n l (set (take n (drop off l)) w v) ≡ set l (off + w) v
