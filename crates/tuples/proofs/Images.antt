@@ -1,5 +1,5 @@
 -- A table's words as a part of the store, which is the tables one after the other and then other words, z.
-use Prim.Native.Nat.{ℕ, suc, _+_, _<_}
+use Prim.Native.Nat.{ℕ, suc, _+_, _<_, _≤_}
 use mathlib.Core.Path.{_≡_, sym, ap, ap₂, _∙_}
 use mathlib.Core.List.{List, [], _++_, append-assoc}
 use native.Mathlib.Omega.{arith}
@@ -21,6 +21,11 @@ module _ (ts : Tables) (k : ℕ) (z : List ℕ) (h : k < length ts) where
 
   whole : table-image ts ++ z ≡ before ++ (getD ts k [] ++ after)
   whole = ap (λ (l : List ℕ). l ++ z) (image-split ts k h) ∙ split (getD ts k [])
+
+  -- the table at place k ends before the tables do
+  pub image-end : (off len : ℕ) → length (table-image (take k ts)) ≡ off → length (getD ts k []) ≡ len → off + len ≤ length (table-image ts)
+  image-end off len p q =
+      omega (arith, ap length (image-split ts k h), length-append before (getD ts k [] ++ table-image (drop (suc k) ts)), length-append (getD ts k []) (table-image (drop (suc k) ts)))
 
   -- the table at place k read
   pub image-part : (off len : ℕ) → length (table-image (take k ts)) ≡ off → length (getD ts k []) ≡ len → take len (drop off (table-image ts ++ z)) ≡ getD ts k []
