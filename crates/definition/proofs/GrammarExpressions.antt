@@ -12,23 +12,15 @@ use Prim.Native.Nat.{ℕ, _≤_}
 use mathlib.Core.List.{List, [], _∷_, _++_}
 use mathlib.Core.Bool.{Bool, true, false, _||_}
 use mathlib.Core.Path.{_≡_, refl, ap, sym, subst, _∙_}
-use native.Mathlib.Omega.{arith}
 use lib.Dec.{leb, eqb}
 use borrow.Author.Tests.{ne-eqb}
+use Rattle.definition.proofs.BoolLaws.{apart}
 use Rattle.definition.proofs.GrammarComplete.{Halts, on-not}
-use Rattle.definition.proofs.GrammarReads.{Next, nothing, a-name, a-string, a-sign, a-key, next, Reads, Fails, Rule, read!, fail!, Stands, _▸_, _▹_, stop!, done!, empty!, none!, sign!, no-sign!, unit-eq, like-eq, start-eq, via, goes, on-goes, on-halts}
+use Rattle.definition.proofs.GrammarReads.{only-key, neither, Next, nothing, a-name, a-string, a-sign, a-key, next, Reads, Fails, Rule, read!, fail!, Stands, _▸_, _▹_, stop!, done!, empty!, none!, sign!, no-sign!, unit-eq, like-eq, start-eq, via, goes, on-goes, on-halts}
 use Rattle.definition.specs.Grammar.{Tree, Term, Terms, MoreTerms, Expression, Comparison, Implication, Consequent, Disjunction, MoreOr, Conjunction, MoreAnd, Negation, Primary, Quantified, flat}
 use Rattle.definition.specs.Grammar.{no-terms, terms, end-terms, more-terms, term-name, term-string, term-any, expression, no-comparison, comparison, implication, no-consequent, implies, iff, disjunction, end-or, more-or, conjunction, end-and, more-and, negation, primary, group, ex, fa, tc, tcfast, atom, true-atom, false-atom, sign-before, sign-between, one-more-attribute, quantified-body}
-use Rattle.definition.specs.Reader.{Symbol, phrase, fixed, identifier, any-sign, after-name, after-quantified, level-end, halt, on-key, wrap, rule, levels-open, as-negation, as-body, as-quantified-rest, arguments, compared-with, quantified-more, primary-of, quantified-of, map-reading, read}
+use Rattle.definition.specs.Reader.{Symbol, phrase, fixed, identifier, any-sign, after-name, after-quantified, level-end, on-key, wrap, levels-open, as-negation, as-body, as-quantified-rest, arguments, compared-with, quantified-more, primary-of, quantified-of, map-reading, read}
 use Rattle.definition.specs.Token.{Terminal, name, string, sign, key, Sign, LPAREN, RPAREN, COMMA, AND, OR, NOT, IMPLIES, IFF, UNDERSCORE, EX, FA, TC, TCFAST, TRUE, FALSE}
-
--- A phrase that takes a key c alone.
-pub only-key : (x : Symbol) (c : ℕ) → ((i : ℕ) (s : List Symbol) → rule x (name i) s ≡ halt) → ((i : ℕ) (s : List Symbol) → rule x (string i) s ≡ halt) → ((g : Sign) (s : List Symbol) → rule x (sign g) s ≡ halt) → ((k : ℕ) (s : List Symbol) → eqb k c ≡ false → rule x (key k) s ≡ halt) → (ts : List Terminal) → (next ts ≡ a-key c → ⊥) → Halts x ts
-only-key x c a b d e [] h = tt
-only-key x c a b d e (name i ∷ l) h = λ s. a i s
-only-key x c a b d e (string i ∷ l) h = λ s. b i s
-only-key x c a b d e (sign g ∷ l) h = λ s. d g s
-only-key x c a b d e (key k ∷ l) h = λ s. e k s (ne-eqb k c (λ i. h (ap a-key i)))
 
 -- Terms.
 pub term-name-rule : {x : ℕ} → Rule (phrase Term) (name x) [] (λ fs. term-name x)
@@ -58,8 +50,8 @@ not-term (a-key k) a b c = ap (λ v. v || false) (ne-eqb k UNDERSCORE (λ e. c (
 
 term-halts : (ts : List Terminal) → begins-term (next ts) ≡ false → Halts (phrase Term) ts
 term-halts [] h = tt
-term-halts (name x ∷ l) h = absurd (let z : _≡_ {A = ℕ} 0 1 = cc in omega arith)
-term-halts (string x ∷ l) h = absurd (let z : _≡_ {A = ℕ} 0 1 = cc in omega arith)
+term-halts (name x ∷ l) h = absurd (apart h)
+term-halts (string x ∷ l) h = absurd (apart h)
 term-halts (sign g ∷ l) h = λ s. refl
 term-halts (key k ∷ l) h = λ s. on-halts k UNDERSCORE _ _ false (λ e. refl) h
 
@@ -78,11 +70,11 @@ pub terms-rule : {ts : List Terminal} → begins-term (next ts) ≡ true → Sta
 terms-rule {ts} h = record { is = λ s. at ts h s }
   where
     at : (ts : List Terminal) → begins-term (next ts) ≡ true → (s : List Symbol) → read ts (phrase Terms ∷ s) ≡ map-reading (λ fs. (terms (fs .0) (fs .1 .0), fs .1 .1)) (read ts (phrase Term ∷ phrase MoreTerms ∷ s))
-    at [] h s = absurd (let z : _≡_ {A = ℕ} 0 1 = cc in omega arith)
+    at [] h s = absurd (apart (sym h))
     at (name x ∷ l) h s = start-eq (phrase Terms) (phrase Term) s (phrase MoreTerms ∷ s) _ (name x) refl (goes _ _) l
     at (string x ∷ l) h s = start-eq (phrase Terms) (phrase Term) s (phrase MoreTerms ∷ s) _ (string x) refl (goes _ _) l
-    at (sign g ∷ l) h s = absurd (let z : _≡_ {A = ℕ} 0 1 = cc in omega arith)
-    at (key k ∷ l) h s = start-eq (phrase Terms) (phrase Term) s (phrase MoreTerms ∷ s) _ (key k) refl (on-goes k UNDERSCORE _ _ _ false (λ e. absurd (let z : _≡_ {A = ℕ} 0 1 = cc in omega arith)) h) l
+    at (sign g ∷ l) h s = absurd (apart (sym h))
+    at (key k ∷ l) h s = start-eq (phrase Terms) (phrase Term) s (phrase MoreTerms ∷ s) _ (key k) refl (on-goes k UNDERSCORE _ _ _ false (λ e. absurd (apart (sym e))) h) l
 
 pub more-terms-rule : Rule (phrase MoreTerms) (key COMMA) (phrase Term ∷ phrase MoreTerms ∷ []) (λ fs. more-terms (fs .0) (fs .1 .0))
 unfolding on-key
@@ -209,19 +201,16 @@ not-primary nothing x y z a b c d e f g h = refl
 not-primary a-name x y z a b c d e f g h = absurd (x refl)
 not-primary a-string x y z a b c d e f g h = absurd (y refl)
 not-primary (a-sign i) x y z a b c d e f g h = absurd (z i refl)
-not-primary (a-key k) x y z a b c d e f g h = no k LPAREN _ a (no k EX _ b (no k FA _ c (no k TC _ d (no k TCFAST _ e (no k TRUE _ f (no k FALSE _ g (no k UNDERSCORE _ h refl)))))))
-  where
-    no : (k c : ℕ) (v : Bool) → (a-key k ≡ a-key c → ⊥) → v ≡ false → (eqb k c || v) ≡ false
-    no k c v h e = ap (λ u. u || v) (ne-eqb k c (λ i. h (ap a-key i))) ∙ e
+not-primary (a-key k) x y z a b c d e f g h = neither k LPAREN _ a (neither k EX _ b (neither k FA _ c (neither k TC _ d (neither k TCFAST _ e (neither k TRUE _ f (neither k FALSE _ g (neither k UNDERSCORE _ h refl)))))))
 
 pub no-primary! : {d : ℕ} {ts : List Terminal} → begins-primary (next ts) ≡ false → Fails d (phrase Primary ∷ []) ts 10 ts
 no-primary! {ts = ts} h = none! (phrase Primary) ts refl (at ts h)
   where
     at : (ts : List Terminal) → begins-primary (next ts) ≡ false → Halts (phrase Primary) ts
     at [] h = tt
-    at (name x ∷ l) h = absurd (let z : _≡_ {A = ℕ} 0 1 = cc in omega arith)
-    at (string x ∷ l) h = absurd (let z : _≡_ {A = ℕ} 0 1 = cc in omega arith)
-    at (sign g ∷ l) h = absurd (let z : _≡_ {A = ℕ} 0 1 = cc in omega arith)
+    at (name x ∷ l) h = absurd (apart h)
+    at (string x ∷ l) h = absurd (apart h)
+    at (sign g ∷ l) h = absurd (apart h)
     at (key k ∷ l) h = λ s. on-halts k LPAREN _ _ (eqb k EX || (eqb k FA || (eqb k TC || (eqb k TCFAST || (eqb k TRUE || (eqb k FALSE || (eqb k UNDERSCORE || false))))))) (on-halts k EX _ _ (eqb k FA || (eqb k TC || (eqb k TCFAST || (eqb k TRUE || (eqb k FALSE || (eqb k UNDERSCORE || false)))))) (on-halts k FA _ _ (eqb k TC || (eqb k TCFAST || (eqb k TRUE || (eqb k FALSE || (eqb k UNDERSCORE || false))))) (on-halts k TC _ _ (eqb k TCFAST || (eqb k TRUE || (eqb k FALSE || (eqb k UNDERSCORE || false)))) (on-halts k TCFAST _ _ (eqb k TRUE || (eqb k FALSE || (eqb k UNDERSCORE || false))) (on-halts k TRUE _ _ (eqb k FALSE || (eqb k UNDERSCORE || false)) (on-halts k FALSE _ _ (eqb k UNDERSCORE || false) (on-halts k UNDERSCORE _ _ false (λ e. refl)))))))) h
 
 -- Primaries that begin with a term, told by the token behind it.

@@ -10,12 +10,12 @@ use Prim.Native.Nat.{ℕ, _≤_}
 use mathlib.Core.List.{List, [], _∷_}
 use mathlib.Core.Bool.{Bool, true, false, _||_}
 use mathlib.Core.Path.{_≡_, refl, ap, sym, subst, _∙_}
-use native.Mathlib.Omega.{arith}
 use lib.Dec.{leb, eqb}
 use borrow.Author.Tests.{ne-eqb}
+use Rattle.definition.proofs.BoolLaws.{apart}
 use Rattle.definition.proofs.GrammarComplete.{Halts, on-not}
-use Rattle.definition.proofs.GrammarReads.{Next, nothing, a-name, a-string, a-sign, a-key, next, Reads, Fails, Rule, read!, Stands, empty!, none!, unit-eq, like-eq, start-eq, via, goes, on-goes, on-halts}
-use Rattle.definition.proofs.GrammarExpressions.{only-key, rests}
+use Rattle.definition.proofs.GrammarReads.{only-key, neither, Next, nothing, a-name, a-string, a-sign, a-key, next, Reads, Fails, Rule, read!, Stands, empty!, none!, unit-eq, like-eq, start-eq, via, goes, on-goes, on-halts}
+use Rattle.definition.proofs.GrammarExpressions.{rests}
 use Rattle.definition.specs.Grammar.{Program, MoreStatements, Statement, Block, Else, Lefts, MoreLefts, Left, MoreItems, Item, Word, Term, Expression}
 use Rattle.definition.specs.Grammar.{program, end-statements, more-statements, conditional, while-loop, for-loop, nested-block, print-statement, block, no-else, else-block, no-lefts, lefts, end-lefts, more-lefts, left-name, left-string, end-items, more-items, item-expression, item-labelled, item-word, item-endl, word-name, word-string}
 use Rattle.definition.specs.Reader.{Symbol, phrase, fixed, identifier, any-sign, after-name, after-item-name, after-item-string, after-left, level-end, on-key, wrap, levels-open, as-item, as-item-name-rest, as-item-string-rest, left-becomes, left-alone, item-of, string-item-of, statement-of, map-reading, read}
@@ -45,8 +45,8 @@ left-string-rule = record { is = λ s. refl }
 
 left-halts : (ts : List Terminal) → names-string (next ts) ≡ false → Halts (phrase Left) ts
 left-halts [] h = tt
-left-halts (name x ∷ l) h = absurd (let z : _≡_ {A = ℕ} 0 1 = cc in omega arith)
-left-halts (string x ∷ l) h = absurd (let z : _≡_ {A = ℕ} 0 1 = cc in omega arith)
+left-halts (name x ∷ l) h = absurd (apart h)
+left-halts (string x ∷ l) h = absurd (apart h)
 left-halts (sign g ∷ l) h = λ s. refl
 left-halts (key k ∷ l) h = λ s. refl
 
@@ -65,11 +65,11 @@ pub lefts-rule : {ts : List Terminal} → names-string (next ts) ≡ true → St
 lefts-rule {ts} h = record { is = λ s. at ts h s }
   where
     at : (ts : List Terminal) → names-string (next ts) ≡ true → (s : List Symbol) → read ts (phrase Lefts ∷ s) ≡ map-reading (λ fs. (lefts (fs .0) (fs .1 .0), fs .1 .1)) (read ts (phrase Left ∷ phrase MoreLefts ∷ s))
-    at [] h s = absurd (let z : _≡_ {A = ℕ} 0 1 = cc in omega arith)
+    at [] h s = absurd (apart (sym h))
     at (name x ∷ l) h s = start-eq (phrase Lefts) (phrase Left) s (phrase MoreLefts ∷ s) _ (name x) refl (goes _ _) l
     at (string x ∷ l) h s = start-eq (phrase Lefts) (phrase Left) s (phrase MoreLefts ∷ s) _ (string x) refl (goes _ _) l
-    at (sign g ∷ l) h s = absurd (let z : _≡_ {A = ℕ} 0 1 = cc in omega arith)
-    at (key k ∷ l) h s = absurd (let z : _≡_ {A = ℕ} 0 1 = cc in omega arith)
+    at (sign g ∷ l) h s = absurd (apart (sym h))
+    at (key k ∷ l) h s = absurd (apart (sym h))
 
 pub more-lefts-rule : Rule (phrase MoreLefts) (key COMMA) (phrase Left ∷ phrase MoreLefts ∷ []) (λ fs. more-lefts (fs .0) (fs .1 .0))
 unfolding on-key
@@ -87,8 +87,8 @@ word-string-rule = record { is = λ s. refl }
 
 word-halts : (ts : List Terminal) → names-string (next ts) ≡ false → Halts (phrase Word) ts
 word-halts [] h = tt
-word-halts (name x ∷ l) h = absurd (let z : _≡_ {A = ℕ} 0 1 = cc in omega arith)
-word-halts (string x ∷ l) h = absurd (let z : _≡_ {A = ℕ} 0 1 = cc in omega arith)
+word-halts (name x ∷ l) h = absurd (apart h)
+word-halts (string x ∷ l) h = absurd (apart h)
 word-halts (sign g ∷ l) h = λ s. refl
 word-halts (key k ∷ l) h = λ s. refl
 
@@ -163,8 +163,8 @@ item-rule {ts} h i j = record { is = λ s. at ts h i j s }
   where
     at : (ts : List Terminal) → names-string (next ts) ≡ false → (next ts ≡ a-key LBRACKET → ⊥) → (next ts ≡ a-key ENDL → ⊥) → (s : List Symbol) → read ts (phrase Item ∷ s) ≡ map-reading (as-item s) (read ts (phrase Expression ∷ s))
     at [] h i j s = refl
-    at (name x ∷ l) h i j s = absurd (let z : _≡_ {A = ℕ} 0 1 = cc in omega arith)
-    at (string x ∷ l) h i j s = absurd (let z : _≡_ {A = ℕ} 0 1 = cc in omega arith)
+    at (name x ∷ l) h i j s = absurd (apart h)
+    at (string x ∷ l) h i j s = absurd (apart h)
     at (sign g ∷ l) h i j s = like-eq (phrase Item) (phrase Expression) s s (as-item s) refl refl (sign g) refl l
     at (key k ∷ l) h i j s = like-eq (phrase Item) (phrase Expression) s s (as-item s) refl refl (key k) (on-not k LBRACKET _ _ (ne-eqb k LBRACKET (λ e. i (ap a-key e))) ∙ on-not k ENDL _ _ (ne-eqb k ENDL (λ e. j (ap a-key e)))) l
 
@@ -237,14 +237,11 @@ not-statement nothing x a b c d e = refl
 not-statement a-name x a b c d e = absurd (x refl)
 not-statement a-string x a b c d e = refl
 not-statement (a-sign i) x a b c d e = refl
-not-statement (a-key k) x a b c d e = no k IF _ a (no k WHILE _ b (no k FOR _ c (no k LBRACE _ d (no k PRINT _ e refl))))
-  where
-    no : (k c : ℕ) (v : Bool) → (a-key k ≡ a-key c → ⊥) → v ≡ false → (eqb k c || v) ≡ false
-    no k c v h e = ap (λ u. u || v) (ne-eqb k c (λ i. h (ap a-key i))) ∙ e
+not-statement (a-key k) x a b c d e = neither k IF _ a (neither k WHILE _ b (neither k FOR _ c (neither k LBRACE _ d (neither k PRINT _ e refl))))
 
 statement-halts : (ts : List Terminal) → begins-statement (next ts) ≡ false → Halts (phrase Statement) ts
 statement-halts [] h = tt
-statement-halts (name x ∷ l) h = absurd (let z : _≡_ {A = ℕ} 0 1 = cc in omega arith)
+statement-halts (name x ∷ l) h = absurd (apart h)
 statement-halts (string x ∷ l) h = λ s. refl
 statement-halts (sign g ∷ l) h = λ s. refl
 statement-halts (key k ∷ l) h = λ s. on-halts k IF _ _ (eqb k WHILE || (eqb k FOR || (eqb k LBRACE || (eqb k PRINT || false)))) (on-halts k WHILE _ _ (eqb k FOR || (eqb k LBRACE || (eqb k PRINT || false))) (on-halts k FOR _ _ (eqb k LBRACE || (eqb k PRINT || false)) (on-halts k LBRACE _ _ (eqb k PRINT || false) (on-halts k PRINT _ _ false (λ e. refl))))) h
@@ -268,8 +265,8 @@ pub more-statements-rule : {ts : List Terminal} → begins-statement (next ts) �
 more-statements-rule {ts} h = record { is = λ s. at ts h s }
   where
     at : (ts : List Terminal) → begins-statement (next ts) ≡ true → (s : List Symbol) → read ts (phrase MoreStatements ∷ s) ≡ map-reading (λ fs. (more-statements (fs .0) (fs .1 .0), fs .1 .1)) (read ts (phrase Statement ∷ phrase MoreStatements ∷ s))
-    at [] h s = absurd (let z : _≡_ {A = ℕ} 0 1 = cc in omega arith)
+    at [] h s = absurd (apart (sym h))
     at (name x ∷ l) h s = start-eq (phrase MoreStatements) (phrase Statement) s (phrase MoreStatements ∷ s) _ (name x) refl (goes _ _) l
-    at (string x ∷ l) h s = absurd (let z : _≡_ {A = ℕ} 0 1 = cc in omega arith)
-    at (sign g ∷ l) h s = absurd (let z : _≡_ {A = ℕ} 0 1 = cc in omega arith)
-    at (key k ∷ l) h s = start-eq (phrase MoreStatements) (phrase Statement) s (phrase MoreStatements ∷ s) _ (key k) refl (on-goes k IF _ _ _ (eqb k WHILE || (eqb k FOR || (eqb k LBRACE || (eqb k PRINT || false)))) (on-goes k WHILE _ _ _ (eqb k FOR || (eqb k LBRACE || (eqb k PRINT || false))) (on-goes k FOR _ _ _ (eqb k LBRACE || (eqb k PRINT || false)) (on-goes k LBRACE _ _ _ (eqb k PRINT || false) (on-goes k PRINT _ _ _ false (λ e. absurd (let z : _≡_ {A = ℕ} 0 1 = cc in omega arith)))))) h) l
+    at (string x ∷ l) h s = absurd (apart (sym h))
+    at (sign g ∷ l) h s = absurd (apart (sym h))
+    at (key k ∷ l) h s = start-eq (phrase MoreStatements) (phrase Statement) s (phrase MoreStatements ∷ s) _ (key k) refl (on-goes k IF _ _ _ (eqb k WHILE || (eqb k FOR || (eqb k LBRACE || (eqb k PRINT || false)))) (on-goes k WHILE _ _ _ (eqb k FOR || (eqb k LBRACE || (eqb k PRINT || false))) (on-goes k FOR _ _ _ (eqb k LBRACE || (eqb k PRINT || false)) (on-goes k LBRACE _ _ _ (eqb k PRINT || false) (on-goes k PRINT _ _ _ false (λ e. absurd (apart (sym e))))))) h) l
