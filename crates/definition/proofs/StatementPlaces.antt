@@ -1,5 +1,7 @@
 -- A statement's place is that of the token with which it begins, and the number in a name or a string is its own token's.
 use mathlib.Core.Path.{_≡_, refl, sym, ap, subst, _∙_}
+use mathlib.Core.Bool.{Bool, true, false}
+use mathlib.Core.Option.{Option, some, none}
 use mathlib.Core.List.{List, [], _∷_, _++_, append-assoc, append-nil}
 use Prim.Native.Nat.{ℕ, suc, _+_, _<_}
 use native.Mathlib.Nat.{add-zero, zero-add}
@@ -9,8 +11,9 @@ use lib.Seq.{drop-append-seam}
 use Rattle.definition.specs.Token.{Terminal, name, string, key, Token, token-at, terminals, lexed, tokens, LBRACE, RBRACE, IF, ELSE, WHILE, FOR, IN}
 use Rattle.definition.specs.Grammar.{Tree, Statement, MoreStatements, Block, Else, flat}
 use Rattle.definition.specs.Grammar
-use Rattle.definition.specs.Syntax.{Program, assign, print, test, while, for, block, says, size, Expression, Term, Item}
+use Rattle.definition.specs.Syntax.{Program, end, assign, print, test, while, for, block, the, says, size, Expression, Term, Item}
 use Rattle.definition.specs.Text.{Text}
+use Rattle.definition.proofs.BoolLaws.{apart}
 use Rattle.definition.proofs.TokenLaws.{Holds, holds-name, holds-string, lexed-numbered, number-at, terminals-drop}
 
 -- a phrase that holds statements, and its tokens
@@ -126,13 +129,43 @@ module _ (ts : List Token) where
   part-said (block-rest {x} {a = a} {b} p) i k = from (omega (arith, length-append (flat a) x)) (λ r h. behind a (suc i) (says ts b (suc i + size a)) r h) (part-said p (suc i + size a) k)
   part-said (else-block {x} {b = b} p) i k = from (omega arith) (λ r h. h) (part-said p (suc i) k)
 
-  -- A statement before which stand the tokens x is said with the number of them, so its place is that of its first token.
+  -- A statement before which stand the tokens x is said with the number of them.
   pub in-said : {st : Tree Statement} {p : Tree Grammar.Program} {x y : List Terminal} → InProgram st p x y → Said st (length x) (says ts p)
   unfolding says
   in-said (first {x} {a = a} {b} p) = from (zero-add (length x)) (λ r h. h) (part-said p 0 (says ts b (size a)))
   in-said (rest {x} {a = a} {b} p) = from (sym (length-append (flat a) x)) (λ r h. behind a 0 (says ts b (size a)) r h) (part-said p (size a) (says ts b (size a)))
 
--- The tokens of a program: a statement after the tokens x begins with token number length x, and is said with that number.
+-- the place of the statement with which a program begins; `{..}` takes no step and has none, the statements in it have theirs
+abbrev pub first-place : Program → Option ℕ
+first-place end = none
+first-place (assign i r us e k) = some i
+first-place (print i is k) = some i
+first-place (test i e a b k) = some i
+first-place (while i e a k) = some i
+first-place (for i v e a k) = some i
+first-place (block a k) = none
+
+abbrev pub is-block : Tree Statement → Bool
+is-block (Tree.assignment x u e) = false
+is-block (Tree.assertion x u) = false
+is-block (Tree.conditional e b c) = false
+is-block (Tree.while-loop e b) = false
+is-block (Tree.for-loop x e b) = false
+is-block (Tree.nested-block a b) = true
+is-block (Tree.print-statement a b) = false
+
+pub said-place : (ts : List Token) (st : Tree Statement) (i : ℕ) (k : Program) → is-block st ≡ false → first-place (says ts st i k) ≡ some (the ts i .at)
+unfolding says
+said-place ts (Tree.assignment x u e) i k h = refl
+said-place ts (Tree.assertion x u) i k h = refl
+said-place ts (Tree.conditional e b c) i k h = refl
+said-place ts (Tree.while-loop e b) i k h = refl
+said-place ts (Tree.for-loop x e b) i k h = refl
+said-place ts (Tree.nested-block a b) i k h = absurd (apart h)
+said-place ts (Tree.print-statement a b) i k h = refl
+
+-- In the program of some tokens a statement after the tokens x begins with token number length x, and is said with that number: by
+-- said-place its place is that token's.
 pub statement-begins : {ts : List Token} {st : Tree Statement} {p : Tree Grammar.Program} {x y : List Terminal} → flat p ≡ terminals ts → InProgram st p x y → (drop (length x) (terminals ts) ≡ flat st ++ y) × Said ts st (length x) (says ts p)
 statement-begins {ts} {st} {p} {x} {y} e h = (ap (drop (length x)) (sym e ∙ in-flat h) ∙ drop-append-seam x (flat st ++ y), in-said ts h)
 
