@@ -5,9 +5,12 @@ use mathlib.Core.List.{List, [], _++_, append-assoc}
 use native.Mathlib.Omega.{arith}
 use lib.ListN.{length, getD, set, take, drop, length-append}
 use lib.Seq.{sets, sets-eq, take-at, drop-at}
+use Rattle.definition.specs.Tables.{Tuple, holds}
 use Rattle.definition.specs.Meaning.{Tables}
 use Rattle.definition.specs.Claim.{table-image}
 use Rattle.definition.proofs.RelationLaws.{image-split, image-set}
+use Rattle.tuples.specs.Places.{word-at}
+use Rattle.tuples.proofs.Tables.{holds-front}
 
 module _ (ts : Tables) (k : ℕ) (z : List ℕ) (h : k < length ts) where
   abbrev before : List ℕ
@@ -30,6 +33,11 @@ module _ (ts : Tables) (k : ℕ) (z : List ℕ) (h : k < length ts) where
   -- the table at place k read
   pub image-part : (off len : ℕ) → length (table-image (take k ts)) ≡ off → length (getD ts k []) ≡ len → take len (drop off (table-image ts ++ z)) ≡ getD ts k []
   image-part off len p q = ap (λ (l : List ℕ). take len (drop off l)) whole ∙ ap (take len) (drop-at before (getD ts k [] ++ after) off p) ∙ take-at (getD ts k []) after len q
+
+  -- its tuples, where all words from its first one on are lent
+  pub image-holds : (off u : ℕ) → length (table-image (take k ts)) ≡ off → (t : Tuple) → word-at u 0 t < length (getD ts k []) → holds u (drop off (table-image ts ++ z)) t ≡ holds u (getD ts k []) t
+  image-holds off u p t l =
+      ap (λ (ws : List ℕ). holds u ws t) (ap (drop off) whole ∙ drop-at before (getD ts k [] ++ after) off p) ∙ holds-front u (getD ts k []) after t l
 
   -- and replaced
   pub image-sets : (off : ℕ) (new : List ℕ) → length (table-image (take k ts)) ≡ off → length new ≡ length (getD ts k []) → sets (table-image ts ++ z) off new ≡ table-image (set ts k new) ++ z

@@ -10,7 +10,7 @@ use native.Mathlib.Numerals.{add-one}
 use borrow.Author.Tests.{eq-eqb, ne-eqb, eqb-true, eqb-false}
 use lib.Dec.{eqb, T}
 use lib.Arith.{digits-lt, digits-div, lt-one}
-use lib.ListN.{length, getD, set, take, drop, length-set, replicate, length-replicate, getD-replicate, length-drop, List·getD-eq-default}
+use lib.ListN.{length, getD, set, take, drop, length-set, replicate, length-replicate, getD-replicate, length-drop, List·getD-eq-default, List·getD-append}
 use lib.Seq.{ext-getD, set-out, getD-set-same, getD-set-other, length-take-le, sets, sets-eq, drop-drop}
 use borrow.Rule.Slice.PartMut.{putMid}
 use Rattle.bits.specs.Bits.{with-bit}
@@ -110,9 +110,13 @@ pub holds-at : (u : ℕ) (ws : List ℕ) (t : Tuple) → holds u ws t ≡ bit (g
 unfolding holds
 holds-at u ws t = holds-place u ws 0 t
 
--- words past the end are zero, and a store there changes nothing
+-- words past the end are zero, and a tuple there is not added
 pub holds-past : (u : ℕ) (ws : List ℕ) (t : Tuple) → length ws ≤ word-at u 0 t → holds u ws t ≡ false
 holds-past u ws t h = holds-at u ws t ∙ ap (λ (w : ℕ). bit w (bit-at t)) (List·getD-eq-default ws 0 h) ∙ bit-none (bit-at t)
+
+-- words behind a table play no part
+pub holds-front : (u : ℕ) (ws rest : List ℕ) (t : Tuple) → word-at u 0 t < length ws → holds u (ws ++ rest) t ≡ holds u ws t
+holds-front u ws rest t h = holds-at u (ws ++ rest) t ∙ ap (λ (w : ℕ). bit w (bit-at t)) (List·getD-append ws rest 0 (word-at u 0 t) h) ∙ sym (holds-at u ws t)
 
 pub with-past : (u : ℕ) (ws : List ℕ) (t : Tuple) → length ws ≤ word-at u 0 t → ws ≡ with-tuple u ws t
 unfolding with-tuple
