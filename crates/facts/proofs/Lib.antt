@@ -1,0 +1,4 @@
+-- Laws over plain lists that the proofs of this crate, and of crates above it, cite.
+pub mod WordLaws
+pub mod ElementLaws
+pub mod LineLaws
