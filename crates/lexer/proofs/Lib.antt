@@ -1,1 +1,4 @@
 pub mod Marks
+pub mod Sizes
+pub mod Lexing
+pub mod Comments

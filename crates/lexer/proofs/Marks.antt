@@ -11,7 +11,7 @@ use Rattle.definition.specs.Text.{Text, starts}
 use Rattle.definition.specs.Token.{Piece, token, neither, first-mark, marks}
 use Rattle.lexer.specs.declared.Segment.{Segment}
 use Rattle.lexer.specs.declared.Segment.the-variants.{Gap, Lexeme, Neither}
-use Rattle.lexer.specs.Words.{terminal-of, sign-of}
+use Rattle.lexer.specs.Tokens.{terminal-of, sign-of}
 use Rattle.lexer.specs.Segments.{piece-of, Small}
 
 pub either-way : (b : Bool) → (b ≡ true) ⊎ (b ≡ false)

@@ -6,7 +6,7 @@ use Rattle.definition.specs.Text.{Text}
 use Rattle.definition.specs.Token.{Piece, gap, token, neither, piece}
 use Rattle.lexer.specs.declared.Segment.{Segment}
 use Rattle.lexer.specs.declared.Segment.the-variants.{Gap, Lexeme, Neither}
-use Rattle.lexer.specs.Words.{terminal-of, quote-of}
+use Rattle.lexer.specs.Tokens.{terminal-of, quote-of}
 
 -- a segment at the start of a text, as the definition's piece
 abbrev pub piece-of : Text → Segment → Piece

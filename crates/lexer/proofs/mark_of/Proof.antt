@@ -5,7 +5,7 @@ use mathlib.Core.Path.{refl, sym, _∙_, ap}
 use lib.Dec.{lit<, eqb}
 use Rattle.definition.specs.Text.{starts}
 use Rattle.definition.specs.Token.{first-mark, marks}
-use Rattle.lexer.specs.Words.{terminal-of, sign-of}
+use Rattle.lexer.specs.Tokens.{terminal-of, sign-of}
 use Rattle.lexer.proofs.Marks.{is-mark, small, small-if, no-mark, colon, bang, dash, less, more}
 use Rattle.lexer.proofs.mark_of.Reads as reads
 use Rattle.lexer.proofs.mark_of.Lts as lts
