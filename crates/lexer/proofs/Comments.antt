@@ -6,8 +6,8 @@ use Prim.Native.Nat.{ℕ, zero, suc, _+_, _-_, _≤_, _<_}
 use native.Mathlib.Numerals.{add-one}
 use native.Mathlib.Omega.{arith}
 use lib.Dec.{eqb}
-use lib.ListN.{length, drop, getD, drop-of-length-le}
-use lib.Seq.{drop-cons, drop-length}
+use lib.ListN.{length, drop, getD, length-drop}
+use lib.Seq.{drop-cons}
 use Rattle.definition.specs.Text.{Text, ascii, starts}
 use Rattle.definition.specs.Token.{Piece, gap, neither, comment}
 
@@ -36,3 +36,7 @@ short n (x ∷ []) h = go (eqb 42 x)
     go true = refl
     go false = refl
 short n (x ∷ y ∷ ys) h = absurd (omega arith)
+
+-- too few bytes are left to close it
+pub comment-out : (text : Text) (n i : ℕ) → length text ≤ i + 1 → comment n (drop i text) ≡ neither
+comment-out text n i h = short n (drop i text) (omega (arith, length-drop i text))

@@ -1,2 +1,4 @@
 pub mod Tokens
 pub mod Segments
+pub mod Scans
+pub mod Answers

@@ -1,12 +1,13 @@
 // The tokens of a query text: one word a token, with its kind, the length of its text and its place.
+use definition::Refusal;
 ghost use lib.Dec.{eqb};
-ghost use lib.ListN.{length, drop, getD};
+ghost use lib.ListN.{length, drop, getD, set};
 ghost use mathlib.Core.Bool.{cond};
 ghost use mathlib.Core.List.{[], _∷_};
 ghost use mathlib.Core.Path.{_≡_};
-ghost use Prim.Native.Nat.{_<_, _≤_, _+_};
-ghost use Rattle.definition.specs.Text.{Text};
-ghost use Rattle.definition.specs.Token.{first-mark, marks};
+ghost use Prim.Native.Nat.{_<_, _≤_, _+_, _*_};
+ghost use Rattle.definition.specs.Text.{Text, ascii, starts};
+ghost use Rattle.definition.specs.Token.{first-mark, marks, comment};
 ghost use Rattle.lexer.specs.Segments.{piece-of, first-piece, Small};
 
 // What begins at a place of the text: bytes that separate; a token's kind, the length of its text and its own length; or neither.
@@ -14,6 +15,18 @@ pub enum Segment {
     Gap(usize),
     Lexeme(u64, usize, usize),
     Neither,
+}
+
+// What the loop over the text found: the place where no token begins, or the number of tokens and the place of the 2,049th.
+pub enum Scan {
+    Stopped(usize),
+    Read(usize, usize),
+}
+
+// The lexer's answer: how many words hold tokens, or why the query is refused.
+pub enum Lexed {
+    Tokens(usize),
+    Refused(Refusal),
 }
 
 // The byte at i, and 0 past the end: no token holds it.
@@ -69,4 +82,60 @@ fn mark_of(x: u8, y: u8, z: u8) -> Segment
         b'>' => longer(y, b'=', 46, Segment::Lexeme(45, 0, 1)),
         _ => Segment::Neither,
     }
+}
+
+// Whether x and y close a comment.
+fn closes(x: u8, y: u8) -> bool
+    ensures { λ r. ⌜ r ≡ starts (ascii "*/") (x ∷ y ∷ []) ⌝ }
+{
+    if x != b'*' {
+        return false;
+    }
+    if y != b'/' {
+        return false;
+    }
+    true
+}
+
+// The comment that "/*" opens at the place at: "/*/" is open, and comments do not nest.
+fn comment_at(text: &[u8], at: usize) -> Segment
+    requires { ⌜ at + 2 ≤ length (now text) ⌝ }
+    ensures value { λ r. ⌜ piece-of (drop at (now (text .entry))) r ≡ comment 2 (drop (at + 2) (now (text .entry))) ⌝ }
+    ensures small { λ r. ⌜ Small r ⌝ }
+{
+    let mut i = at + 2;
+    while i + 1 < text.len() {
+        if closes(text[i], text[i + 1]) {
+            return Segment::Gap(i + 2 - at);
+        }
+        i += 1;
+    }
+    Segment::Neither
+}
+
+// The word of a token: six bits for its kind, six for the length of its text, and its place.
+fn packed(kind: u64, size: usize, at: usize) -> u64
+    requires { ⌜ (kind < 64) × (size < 64) × (at < 65536) ⌝ }
+    ensures { λ r. ⌜ r ≡ kind + 64 * (size + 64 * at) ⌝ }
+{
+    kind + 64 * (size as u64 + 64 * at as u64)
+}
+
+// Stores a word; past the end nothing.
+fn put(words: &mut [u64], i: usize, word: u64)
+    ensures { λ _. ⌜ now (words .exit) ≡ set (now (words .entry)) i word ⌝ }
+{
+    if i < words.len() {
+        words[i] = word;
+    }
+}
+
+// The place of the 2,049th token: at, if that is the next one, else what is known already.
+fn overflow(count: usize, at: usize, known: usize) -> usize
+    ensures { λ r. ⌜ r ≡ cond (eqb count 2048) at known ⌝ }
+{
+    if count == 2048 {
+        return at;
+    }
+    known
 }
