@@ -2,3 +2,6 @@ pub mod Marks
 pub mod Sizes
 pub mod Lexing
 pub mod Comments
+pub mod Packing
+pub mod Reading
+pub mod Queries
