@@ -6,9 +6,9 @@ ghost use mathlib.Core.Bool.{cond};
 ghost use mathlib.Core.List.{[], _∷_};
 ghost use mathlib.Core.Path.{_≡_};
 ghost use Prim.Native.Nat.{_<_, _≤_, _+_, _*_};
-ghost use Rattle.definition.specs.Text.{Text, ascii, starts};
-ghost use Rattle.definition.specs.Token.{first-mark, marks, comment};
-ghost use Rattle.lexer.specs.Segments.{piece-of, first-piece, Small};
+ghost use Rattle.definition.specs.Text.{Text, ascii, span, starts};
+ghost use Rattle.definition.specs.Token.{first-mark, marks, comment, quoted};
+ghost use Rattle.lexer.specs.Segments.{piece-of, first-piece, in-string, Small};
 
 // What begins at a place of the text: bytes that separate; a token's kind, the length of its text and its own length; or neither.
 pub enum Segment {
@@ -111,6 +111,49 @@ fn comment_at(text: &[u8], at: usize) -> Segment
         i += 1;
     }
     Segment::Neither
+}
+
+// Whether x can stand in a string.
+fn stands_in_string(x: u8) -> bool
+    ensures { λ r. ⌜ r ≡ in-string x ⌝ }
+{
+    if x == b'"' {
+        return false;
+    }
+    x != 10
+}
+
+// Where the bytes of a string end that begin at the place from.
+fn string_end(text: &[u8], from: usize) -> usize
+    requires { ⌜ from ≤ length (now text) ⌝ }
+    ensures value { λ r. ⌜ r ≡ from + span in-string (drop from (now (text .entry))) ⌝ }
+    ensures within { λ r. ⌜ (from ≤ r) × (r ≤ length (now (text .entry))) ⌝ }
+{
+    let mut i = from;
+    while i < text.len() {
+        if !stands_in_string(text[i]) {
+            return i;
+        }
+        i += 1;
+    }
+    i
+}
+
+// The string whose opening quote is at the place at: its text is 0 to 32 bytes.
+fn string_at(text: &[u8], at: usize) -> Segment
+    requires { ⌜ at < length (now text) ⌝ }
+    ensures value { λ r. ⌜ piece-of (drop at (now (text .entry))) r ≡ quoted (drop (at + 1) (now (text .entry))) ⌝ }
+    ensures small { λ r. ⌜ Small r ⌝ }
+{
+    let end = string_end(text, at + 1);
+    let n = end - (at + 1);
+    if 32 < n {
+        return Segment::Neither;
+    }
+    if byte_at(text, end) != b'"' {
+        return Segment::Neither;
+    }
+    Segment::Lexeme(48, n, n + 2)
 }
 
 // The word of a token: six bits for its kind, six for the length of its text, and its place.

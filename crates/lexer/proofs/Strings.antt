@@ -1,0 +1,68 @@
+-- A string, from where its run of bytes ends.
+use mathlib.Core.Path.{_≡_, refl, sym, ap, _∙_}
+use mathlib.Core.Bool.{Bool, true, false, _&&_, not, cond}
+use mathlib.Core.List.{List, [], _∷_}
+use Prim.Native.Nat.{ℕ, zero, suc, _+_, _-_, _≤_, _<_}
+use native.Mathlib.Nat.{add-zero}
+use native.Mathlib.Omega.{arith}
+use lib.Dec.{eqb, leb}
+use lib.ListN.{length, take, drop, getD, drop-of-length-le}
+use lib.Seq.{drop-drop, getD-drop, drop-cons}
+use native.Mathlib.Numerals.{add-one}
+use borrow.Author.Tests.{le-leb, lt-leb, eq-eqb, ne-eqb}
+use Rattle.definition.specs.Text.{Text, span, starts}
+use Rattle.definition.specs.Limits.{WORD-BYTES}
+use Rattle.definition.specs.Token.{token, neither, string, quoted}
+use Rattle.lexer.specs.declared.Segment.the-variants.{Lexeme}
+use Rattle.lexer.specs.Tokens.{STRING, terminal-of, sign-of, quote-of}
+use Rattle.lexer.specs.Segments.{piece-of, in-string}
+
+-- a text of one byte begins a text whose first byte it is; 0 stands for none
+pub starts-one : (b : ℕ) (xs : Text) → eqb b 0 ≡ false → starts (b ∷ []) xs ≡ eqb b (getD xs 0 0)
+unfolding starts
+starts-one b [] e = sym e
+starts-one b (x ∷ xs) e = go (eqb b x)
+  where
+    go : (c : Bool) → (c && true) ≡ c
+    go true = refl
+    go false = refl
+
+-- the bytes up to the closing quote, one at a time
+module _ (text : Text) (i : ℕ) where
+  pub string-on : i < length text → in-string (getD text i 0) ≡ true → i + span in-string (drop i text) ≡ i + 1 + span in-string (drop (i + 1) text)
+  unfolding span
+  string-on h e = rw (drop-cons text i 0, e, add-one i) (omega arith)
+
+  pub string-ends : i < length text → in-string (getD text i 0) ≡ false → i + span in-string (drop i text) ≡ i
+  unfolding span
+  string-ends h e = rw (drop-cons text i 0, e) (omega arith)
+
+  pub string-out : length text ≤ i → i + span in-string (drop i text) ≡ i
+  unfolding span
+  string-out h = rw (drop-of-length-le text h) (omega arith)
+
+module _ (text : Text) (at end : ℕ) (e : end ≡ at + 1 + span in-string (drop (at + 1) text)) where
+  size : span in-string (drop (at + 1) text) ≡ end - (at + 1)
+  size = omega arith
+
+  closing : starts (34 ∷ []) (drop (end - (at + 1)) (drop (at + 1) text)) ≡ eqb 34 (getD text end 0)
+  closing =
+      let m : at + 1 + (end - (at + 1)) ≡ end = omega arith in
+      starts-one 34 (drop (end - (at + 1)) (drop (at + 1) text)) refl ∙ rw (drop-drop, getD-drop, add-zero, m)
+
+  pub string-closed : end - (at + 1) ≤ WORD-BYTES → getD text end 0 ≡ 34
+      → piece-of (drop at text) (Lexeme STRING (end - (at + 1)) (end - (at + 1) + 2)) ≡ quoted (drop (at + 1) text)
+  unfolding quoted terminal-of quote-of
+  string-closed h q = rw (size, closing, le-leb (end - (at + 1)) WORD-BYTES h, q, drop-drop 1 at text)
+
+  pub string-open : (getD text end 0 ≡ 34 → ⊥) → neither ≡ quoted (drop (at + 1) text)
+  unfolding quoted
+  string-open q = rw (size, closing, ne-eqb 34 (getD text end 0) (λ z. q (sym z))) (go (leb (end - (at + 1)) WORD-BYTES))
+    where
+      go : (b : Bool) → neither ≡ cond (b && false) (token string (take (end - (at + 1)) (drop (at + 1) text)) (end - (at + 1) + 2)) neither
+      go true = refl
+      go false = refl
+
+  pub string-long : WORD-BYTES < end - (at + 1) → neither ≡ quoted (drop (at + 1) text)
+  unfolding quoted
+  string-long h = rw (size, lt-leb (end - (at + 1)) WORD-BYTES h)

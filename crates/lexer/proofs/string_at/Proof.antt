@@ -1,0 +1,64 @@
+use borrow.Author.Needs.{needs}
+use Rattle.lexer.proofs.string_at.Statement.{statement}
+use Rattle.lexer.proofs.string_at.Tie as tie
+use mathlib.Core.Path.{_≡_, sym, _∙_}
+use native.Mathlib.Omega.{arith}
+use denote.Ref.{now}
+use lib.Dec.{lit<}
+use Rattle.lexer.proofs.Strings.{string-closed, string-open, string-long}
+use Rattle.lexer.proofs.string_at.Reads as reads
+use Rattle.lexer.proofs.string_at.Lts as lts
+use Rattle.lexer.proofs.byte_at.Reads as byte-at-reads
+use Rattle.lexer.proofs.string_end.Reads as string-end-reads
+
+add-string-end : tie.Need-add-string-end
+add-string-end c = search needs
+
+string-end-requires : tie.Need-string-end-requires
+string-end-requires c κs = search needs
+
+add-n : tie.Need-add-n
+add-n c = search needs
+
+sub-n : tie.Need-sub-n
+sub-n c = search needs
+
+returns : tie.Need-returns
+returns c =
+    let f = c .before .string-end in
+    let a = c .before .before .before .args in
+    (string-long (now (a .text)) (a .at) (f .result) (f .ensures .0) (c .if1 .taken), record { kind = lit< tt; size = lit< tt })
+
+byte-at-requires : tie.Need-byte-at-requires
+byte-at-requires c κs = search needs
+
+returns-2 : tie.Need-returns-2
+returns-2 c =
+    let f = c .before .before .before .string-end in
+    let a = c .before .before .before .before .before .args in
+    (string-open (now (a .text)) (a .at) (f .result) (f .ensures .0) (λ e. c .if2 .taken (c .before .byte-at .ensures ∙ e)), record { kind = lit< tt; size = lit< tt })
+
+add-t5 : tie.Need-add-t5
+add-t5 c = search needs
+
+returns-3 : tie.Need-returns-3
+returns-3 c =
+    let f = c .before .before .before .string-end in
+    let a = c .before .before .before .before .before .args in (
+      string-closed (now (a .text)) (a .at) (f .result) (f .ensures .0) (c .before .before .if1 .left) (sym (c .before .byte-at .ensures) ∙ c .if2 .left),
+      record { kind = lit< tt; size = omega arith },
+    )
+
+pub string-at-spec : {M : Type 1} → statement M
+string-at-spec =
+    tie.close
+    (tie.spec
+    add-string-end
+    string-end-requires
+    add-n
+    sub-n
+    returns
+    byte-at-requires
+    returns-2
+    add-t5
+    returns-3)
