@@ -3,6 +3,9 @@ pub mod Sizes
 pub mod Lexing
 pub mod Comments
 pub mod Strings
+pub mod Pieces
+pub mod Identifiers
 pub mod Packing
 pub mod Reading
+pub mod Steps
 pub mod Queries

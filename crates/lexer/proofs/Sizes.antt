@@ -10,6 +10,7 @@ use lib.ListN.{length, take, drop, length-take, length-drop}
 use Rattle.definition.specs.Text.{Text, ascii, span, all-of, same, starts, is-letter, is-part, is-blank, reserved}
 use Rattle.definition.specs.Limits.{WORD-BYTES}
 use Rattle.definition.specs.Token.{Terminal, string, key, Mark, marks, Piece, gap, token, neither, first-mark, word-terminal, word, quoted, comment, piece, UNDERSCORE, FIRST-WORD}
+use Rattle.texts.proofs.RunLaws.{span-within}
 use Rattle.definition.proofs.BoolLaws.{and-left, and-right}
 
 -- a piece of a text of n bytes
@@ -27,15 +28,6 @@ module _ {n : ℕ} where
   sized-more h (sized-gap a b) = sized-gap a (omega arith)
   sized-more h (sized-token a b) = sized-token a (omega arith)
   sized-more h sized-neither = sized-neither
-
-pub span-length : (p : ℕ → Bool) (xs : Text) → span p xs ≤ length xs
-unfolding span
-span-length p [] = omega arith
-span-length p (x ∷ xs) = go (p x) (span-length p xs)
-  where
-    go : (b : Bool) → span p xs ≤ length xs → cond b (suc (span p xs)) 0 ≤ suc (length xs)
-    go true h = omega arith
-    go false h = omega arith
 
 -- a run whose first byte passes is not empty
 span-some : (p : ℕ → Bool) (x : ℕ) (xs : Text) → p x ≡ true → 0 < span p (x ∷ xs)
@@ -110,7 +102,7 @@ pub piece-sized : (x : ℕ) (xs : Text) → Sized (suc (length xs)) (piece x xs)
 unfolding piece
 piece-sized x xs =
     sized-if (is-blank x || eqb x 10) (λ e. sized-gap (omega arith) (omega arith))
-    (λ e0. sized-if (starts (ascii "//") (x ∷ xs)) (λ e. sized-gap (span-some (λ y. not (eqb y 10)) x xs (slash x (47 ∷ []) xs e)) (span-length (λ y. not (eqb y 10)) (x ∷ xs)))
+    (λ e0. sized-if (starts (ascii "//") (x ∷ xs)) (λ e. sized-gap (span-some (λ y. not (eqb y 10)) x xs (slash x (47 ∷ []) xs e)) (span-within (λ y. not (eqb y 10)) (x ∷ xs)))
     (λ e1. sized-if (starts (ascii "/*") (x ∷ xs)) (λ e. let h = starts-length (ascii "/*") (x ∷ xs) e in sized-more (omega (arith, length-drop 1 xs)) (comment-sized 2 (drop 1 xs)))
     (λ e2. sized-if (is-letter x) (λ e. let h = length-take (span is-part (x ∷ xs)) (x ∷ xs) in let k = span-some is-part x xs (letter-part x e) in
     word-sized (suc (length xs)) (take (span is-part (x ∷ xs)) (x ∷ xs)) (omega arith) (omega arith))

@@ -6,16 +6,15 @@ use Prim.Native.Nat.{ℕ, zero, suc, _+_, _-_, _≤_, _<_}
 use native.Mathlib.Nat.{add-zero}
 use native.Mathlib.Omega.{arith}
 use lib.Dec.{eqb, leb}
-use lib.ListN.{length, take, drop, getD, drop-of-length-le}
-use lib.Seq.{drop-drop, getD-drop, drop-cons}
-use native.Mathlib.Numerals.{add-one}
+use lib.ListN.{length, take, drop, getD}
+use lib.Seq.{drop-drop, getD-drop}
 use borrow.Author.Tests.{le-leb, lt-leb, eq-eqb, ne-eqb}
 use Rattle.definition.specs.Text.{Text, span, starts}
 use Rattle.definition.specs.Limits.{WORD-BYTES}
 use Rattle.definition.specs.Token.{token, neither, string, quoted}
 use Rattle.lexer.specs.declared.Segment.the-variants.{Lexeme}
 use Rattle.lexer.specs.Tokens.{STRING, terminal-of, sign-of, quote-of}
-use Rattle.lexer.specs.Segments.{piece-of, in-string}
+use Rattle.lexer.specs.Segments.{piece-of}
 
 -- a text of one byte begins a text whose first byte it is; 0 stands for none
 pub starts-one : (b : ℕ) (xs : Text) → eqb b 0 ≡ false → starts (b ∷ []) xs ≡ eqb b (getD xs 0 0)
@@ -27,19 +26,9 @@ starts-one b (x ∷ xs) e = go (eqb b x)
     go true = refl
     go false = refl
 
--- the bytes up to the closing quote, one at a time
-module _ (text : Text) (i : ℕ) where
-  pub string-on : i < length text → in-string (getD text i 0) ≡ true → i + span in-string (drop i text) ≡ i + 1 + span in-string (drop (i + 1) text)
-  unfolding span
-  string-on h e = rw (drop-cons text i 0, e, add-one i) (omega arith)
-
-  pub string-ends : i < length text → in-string (getD text i 0) ≡ false → i + span in-string (drop i text) ≡ i
-  unfolding span
-  string-ends h e = rw (drop-cons text i 0, e) (omega arith)
-
-  pub string-out : length text ≤ i → i + span in-string (drop i text) ≡ i
-  unfolding span
-  string-out h = rw (drop-of-length-le text h) (omega arith)
+-- "no quote, no byte 10"
+abbrev pub in-string : ℕ → Bool
+in-string x = not (eqb x 34) && not (eqb x 10)
 
 module _ (text : Text) (at end : ℕ) (e : end ≡ at + 1 + span in-string (drop (at + 1) text)) where
   size : span in-string (drop (at + 1) text) ≡ end - (at + 1)

@@ -1,8 +1,6 @@
 -- What the lexer finds at a place of the query, and what that means.
 use Prim.Native.Nat.{ℕ, _<_}
-use mathlib.Core.Bool.{Bool, _&&_, not}
 use mathlib.Core.List.{List, [], _∷_}
-use lib.Dec.{eqb}
 use lib.ListN.{take, drop}
 use Rattle.definition.specs.Text.{Text}
 use Rattle.definition.specs.Token.{Piece, gap, token, neither, piece}
@@ -15,10 +13,6 @@ abbrev pub piece-of : Text → Segment → Piece
 piece-of xs (Gap n) = gap n
 piece-of xs (Lexeme k m n) = token (terminal-of k) (take m (drop (quote-of k) xs)) n
 piece-of xs Neither = neither
-
--- "no quote, no byte 10"
-abbrev pub in-string : ℕ → Bool
-in-string x = not (eqb x 34) && not (eqb x 10)
 
 -- what begins a text
 abbrev pub first-piece : Text → Piece

@@ -1,24 +1,32 @@
 // The tokens of a query text: one word a token, with its kind, the length of its text and its place.
 use definition::Refusal;
+use texts::Class;
+use texts::Word;
+use texts::is_letter;
+use texts::reserved_word;
+use texts::run_end;
+use texts::same;
 ghost use lib.Dec.{eqb};
-ghost use lib.ListN.{length, drop, getD, set};
-ghost use mathlib.Core.Bool.{cond};
+ghost use lib.ListN.{length, take, drop, getD, set};
+ghost use mathlib.Core.Bool.{cond, _||_};
 ghost use mathlib.Core.List.{[], _∷_};
 ghost use mathlib.Core.Path.{_≡_};
-ghost use Prim.Native.Nat.{_<_, _≤_, _+_, _*_};
-ghost use Rattle.definition.specs.Text.{Text, ascii, span, starts};
-ghost use Rattle.definition.specs.Token.{first-mark, marks, comment, quoted};
-ghost use Rattle.lexer.specs.Segments.{piece-of, first-piece, in-string, Small};
+ghost use Prim.Native.Nat.{_<_, _≤_, _+_, _*_, min};
+ghost use Rattle.definition.specs.Text.{Text, ascii, span, starts, is-letter, is-part, is-blank, is-legal};
+ghost use Rattle.definition.specs.Token.{first-mark, marks, comment, quoted, word};
+ghost use Rattle.lexer.specs.Answers.{answer, count-of, query-tokens};
+ghost use Rattle.lexer.specs.Scans.{Scanned};
+ghost use Rattle.lexer.specs.Segments.{piece-of, first-piece, Small};
 
 // What begins at a place of the text: bytes that separate; a token's kind, the length of its text and its own length; or neither.
-pub enum Segment {
+enum Segment {
     Gap(usize),
     Lexeme(u64, usize, usize),
     Neither,
 }
 
 // What the loop over the text found: the place where no token begins, or the number of tokens and the place of the 2,049th.
-pub enum Scan {
+enum Scan {
     Stopped(usize),
     Read(usize, usize),
 }
@@ -113,39 +121,13 @@ fn comment_at(text: &[u8], at: usize) -> Segment
     Segment::Neither
 }
 
-// Whether x can stand in a string.
-fn stands_in_string(x: u8) -> bool
-    ensures { λ r. ⌜ r ≡ in-string x ⌝ }
-{
-    if x == b'"' {
-        return false;
-    }
-    x != 10
-}
-
-// Where the bytes of a string end that begin at the place from.
-fn string_end(text: &[u8], from: usize) -> usize
-    requires { ⌜ from ≤ length (now text) ⌝ }
-    ensures value { λ r. ⌜ r ≡ from + span in-string (drop from (now (text .entry))) ⌝ }
-    ensures within { λ r. ⌜ (from ≤ r) × (r ≤ length (now (text .entry))) ⌝ }
-{
-    let mut i = from;
-    while i < text.len() {
-        if !stands_in_string(text[i]) {
-            return i;
-        }
-        i += 1;
-    }
-    i
-}
-
 // The string whose opening quote is at the place at: its text is 0 to 32 bytes.
 fn string_at(text: &[u8], at: usize) -> Segment
     requires { ⌜ at < length (now text) ⌝ }
     ensures value { λ r. ⌜ piece-of (drop at (now (text .entry))) r ≡ quoted (drop (at + 1) (now (text .entry))) ⌝ }
     ensures small { λ r. ⌜ Small r ⌝ }
 {
-    let end = string_end(text, at + 1);
+    let end = run_end(text, at + 1, Class::InString);
     let n = end - (at + 1);
     if 32 < n {
         return Segment::Neither;
@@ -154,6 +136,77 @@ fn string_at(text: &[u8], at: usize) -> Segment
         return Segment::Neither;
     }
     Segment::Lexeme(48, n, n + 2)
+}
+
+// The identifier, the reserved word or "_" alone at the place at.
+fn word_at(text: &[u8], at: usize) -> Segment
+    requires { ⌜ at < length (now text) ⌝ }
+    ensures value { λ r. ⌜ piece-of (drop at (now (text .entry))) r ≡ word (take (span is-part (drop at (now (text .entry)))) (drop at (now (text .entry)))) ⌝ }
+    ensures small { λ r. ⌜ Small r ⌝ }
+{
+    let end = run_end(text, at, Class::Part);
+    let n = end - at;
+    if 32 < n {
+        return Segment::Neither;
+    }
+    if same(&text[at..end], b"_") {
+        return Segment::Lexeme(14, 0, 1);
+    }
+    match reserved_word(&text[at..end]) {
+        Word::Reserved(k) => Segment::Lexeme(15 + k as u64, n, n),
+        Word::Identifier => Segment::Lexeme(47, n, n),
+    }
+}
+
+// What begins with a slash at the place at: one of the two comment forms, or nothing.
+fn slash_at(text: &[u8], at: usize) -> Segment
+    requires { ⌜ (at < length (now text)) × (getD (now text) at 0 ≡ 47) ⌝ }
+    ensures value { λ r. ⌜ piece-of (drop at (now (text .entry))) r ≡ first-piece (drop at (now (text .entry))) ⌝ }
+    ensures small { λ r. ⌜ Small r ⌝ }
+{
+    let next = byte_at(text, at + 1);
+    if next == b'*' {
+        return comment_at(text, at);
+    }
+    if next == b'/' {
+        return Segment::Gap(run_end(text, at, Class::NoEnd) - at);
+    }
+    Segment::Neither
+}
+
+// Whether x is one of the blanks 9, 10 and 32.
+fn separates(x: u8) -> bool
+    ensures { λ r. ⌜ r ≡ (is-blank x || eqb x 10) ⌝ }
+{
+    if x == 9 {
+        return true;
+    }
+    if x == 32 {
+        return true;
+    }
+    x == 10
+}
+
+// What begins at the place at.
+fn segment_at(text: &[u8], at: usize) -> Segment
+    requires { ⌜ at < length (now text) ⌝ }
+    ensures value { λ r. ⌜ piece-of (drop at (now (text .entry))) r ≡ first-piece (drop at (now (text .entry))) ⌝ }
+    ensures small { λ r. ⌜ Small r ⌝ }
+{
+    let x = text[at];
+    if separates(x) {
+        return Segment::Gap(1);
+    }
+    if x == b'/' {
+        return slash_at(text, at);
+    }
+    if is_letter(x) {
+        return word_at(text, at);
+    }
+    if x == b'"' {
+        return string_at(text, at);
+    }
+    mark_of(x, byte_at(text, at + 1), byte_at(text, at + 2))
 }
 
 // The word of a token: six bits for its kind, six for the length of its text, and its place.
@@ -181,4 +234,62 @@ fn overflow(count: usize, at: usize, known: usize) -> usize
         return at;
     }
     known
+}
+
+// Every token of the query: its number and place, and the words of the first 2,048.
+fn scan_query(query: &[u8], words: &mut [u64]) -> Scan
+    requires { ⌜ (length (now query) ≤ 16384) × (2048 ≤ length (now words)) ⌝ }
+    ensures { λ r. ⌜ Scanned (now (query .entry)) (now (words .exit)) r ⌝ }
+{
+    let mut at = 0;
+    let mut count = 0;
+    let mut over = 0;
+    while at < query.len() {
+        match segment_at(query, at) {
+            Segment::Gap(n) => {
+                at += n;
+            }
+            Segment::Lexeme(kind, size, n) => {
+                put(words, count, packed(kind, size, at));
+                over = overflow(count, at, over);
+                count += 1;
+                at += n;
+            }
+            Segment::Neither => {
+                return Scan::Stopped(at);
+            }
+        }
+    }
+    Scan::Read(count, over)
+}
+
+// The smaller of two places.
+fn smaller(a: usize, b: usize) -> usize
+    ensures { λ r. ⌜ r ≡ min a b ⌝ }
+{
+    if a < b { a } else { b }
+}
+
+// The tokens of a query, or row 8, 9 or 13 with its place. Words past the answer's count may be anything.
+pub fn lex(query: &[u8], words: &mut [u64]) -> Lexed
+    requires { ⌜ 2048 ≤ length (now words) ⌝ }
+    ensures value { λ r. ⌜ answer (now (query .entry)) (now (words .exit)) r ≡ query-tokens (now (query .entry)) ⌝ }
+    ensures count { λ r. ⌜ count-of r ≤ 2048 ⌝ }
+{
+    if 16384 < query.len() {
+        return Lexed::Refused(Refusal::QueryTooLong);
+    }
+    let legal = run_end(query, 0, Class::Legal);
+    match scan_query(query, words) {
+        Scan::Stopped(p) => Lexed::Refused(Refusal::NoToken(smaller(p, legal))),
+        Scan::Read(count, over) => {
+            if legal < query.len() {
+                return Lexed::Refused(Refusal::NoToken(legal));
+            }
+            if 2048 < count {
+                return Lexed::Refused(Refusal::TooMuch(over));
+            }
+            Lexed::Tokens(count)
+        }
+    }
 }

@@ -9,13 +9,13 @@ use Rattle.lexer.proofs.Strings.{string-closed, string-open, string-lon
 use Rattle.lexer.proofs.string_at.Reads as reads
 use Rattle.lexer.proofs.string_at.Lts as lts
 use Rattle.lexer.proofs.byte_at.Reads as byte-at-reads
-use Rattle.lexer.proofs.string_end.Reads as string-end-reads
+use Rattle.texts.proofs.run_end.Reads as run-end-reads
 
-add-string-end : tie.Need-add-string-end
-add-string-end c = search needs
+add-run-end : tie.Need-add-run-end
+add-run-end c = search needs
 
-string-end-requires : tie.Need-string-end-requires
-string-end-requires c κs = search needs
+run-end-requires : tie.Need-run-end-requires
+run-end-requires c κs = search needs
 
 add-n : tie.Need-add-n
 add-n c = search needs
@@ -25,7 +25,7 @@ sub-n c = search needs
 
 returns : tie.Need-returns
 returns c =
-    let f = c .before .string-end in
+    let f = c .before .run-end in
     let a = c .before .before .before .args in
     (string-long (now (a .text)) (a .at) (f .result) (f .ensures .0) (c .if1 .taken), record { kind = lit< tt; size = lit< tt })
 
@@ -34,7 +34,7 @@ byte-at-requires c κs = search needs
 
 returns-2 : tie.Need-returns-2
 returns-2 c =
-    let f = c .before .before .before .string-end in
+    let f = c .before .before .before .run-end in
     let a = c .before .before .before .before .before .args in
     (string-open (now (a .text)) (a .at) (f .result) (f .ensures .0) (λ e. c .if2 .taken (c .before .byte-at .ensures ∙ e)), record { kind = lit< tt; size = lit< tt })
 
@@ -43,7 +43,7 @@ add-t5 c = search needs
 
 returns-3 : tie.Need-returns-3
 returns-3 c =
-    let f = c .before .before .before .string-end in
+    let f = c .before .before .before .run-end in
     let a = c .before .before .before .before .before .args in (
       string-closed (now (a .text)) (a .at) (f .result) (f .ensures .0) (c .before .before .if1 .left) (sym (c .before .byte-at .ensures) ∙ c .if2 .left),
       record { kind = lit< tt; size = omega arith },
@@ -53,8 +53,8 @@ pub string-at-spec : {M : Type 1} → statement M
 string-at-spec =
     tie.close
     (tie.spec
-    add-string-end
-    string-end-requires
+    add-run-end
+    run-end-requires
     add-n
     sub-n
     returns
