@@ -1,3 +1,7 @@
--- The words of a parsed program: fields and kinds, then the words of each tree.
+-- The words of a parsed program: fields and kinds, the words of each tree, the tokens of a program, the uses of names and the statements
+-- as its words show them.
 pub mod Fields
 pub mod Raw
+pub mod Tokens
+pub mod Shown
+pub mod Parts
