@@ -3,20 +3,27 @@ use Prim.Native.Nat.{ℕ, _<_}
 use mathlib.Core.Path.{_≡_}
 use mathlib.Core.List.{List, [], _∷_}
 use lib.ListN.{length}
+use Rattle.definition.specs.Token as Token
 use Rattle.definition.specs.Token.{Token, token-at}
 use Rattle.definition.specs.Syntax.{Term, name, string, anything, Expression, atom, truth, falsity, compare, negation, conjunction, disjunction, implication, equivalence, exists, for-all, closure-of, compare-relations}
 use Rattle.definition.specs.Syntax.{Item, rows, word, line-end, Program, end, assign, print, test, while, for, block}
 use Rattle.words.specs.Raw.{number}
 
 module _ (ts : List Token) where
-  -- a token of the list, under its own number
-  pub record Own (t : Token) : Type 0 where
+  -- an identifier, or a string, of the list, under its own number
+  pub record OwnName (t : Token) : Type 0 where
     pub found : token-at ts (number t) ≡ t
     pub inside : number t < length ts
+    pub is-name : t .terminal ≡ Token.name (number t)
+
+  pub record OwnString (t : Token) : Type 0 where
+    pub found : token-at ts (number t) ≡ t
+    pub inside : number t < length ts
+    pub is-string : t .terminal ≡ Token.string (number t)
 
   abbrev pub OwnTerm : Term → Type 0
-  OwnTerm (name t) = Own t
-  OwnTerm (string t) = Own t
+  OwnTerm (name t) = OwnName t
+  OwnTerm (string t) = OwnString t
   OwnTerm anything = Unit {0}
 
   unfoldable pub OwnTerms : List Term → Type 0
@@ -24,7 +31,7 @@ module _ (ts : List Token) where
   OwnTerms (p ∷ ps) = OwnTerm p × OwnTerms ps
 
   unfoldable pub OwnExpression : Expression → Type 0
-  OwnExpression (atom r ps) = Own r × OwnTerms ps
+  OwnExpression (atom r ps) = OwnName r × OwnTerms ps
   OwnExpression (truth ps) = OwnTerms ps
   OwnExpression (falsity ps) = OwnTerms ps
   OwnExpression (compare g p q) = OwnTerms (p ∷ q ∷ [])
@@ -33,8 +40,8 @@ module _ (ts : List Token) where
   OwnExpression (disjunction a b) = OwnExpression a × OwnExpression b
   OwnExpression (implication a b) = OwnExpression a × OwnExpression b
   OwnExpression (equivalence a b) = OwnExpression a × OwnExpression b
-  OwnExpression (exists x e) = Own x × OwnExpression e
-  OwnExpression (for-all x e) = Own x × OwnExpression e
+  OwnExpression (exists x e) = OwnName x × OwnExpression e
+  OwnExpression (for-all x e) = OwnName x × OwnExpression e
   OwnExpression (closure-of e) = OwnExpression e
   OwnExpression (compare-relations g a b) = OwnExpression a × OwnExpression b
 
@@ -49,9 +56,9 @@ module _ (ts : List Token) where
 
   unfoldable pub OwnProgram : Program → Type 0
   OwnProgram end = Unit {0}
-  OwnProgram (assign i r ps e k) = (i < 65536) × Own r × OwnTerms ps × OwnExpression e × OwnProgram k
+  OwnProgram (assign i r ps e k) = (i < 65536) × OwnName r × OwnTerms ps × OwnExpression e × OwnProgram k
   OwnProgram (print i is k) = (i < 65536) × OwnItems is × OwnProgram k
   OwnProgram (test i e a b k) = (i < 65536) × OwnExpression e × OwnProgram a × OwnProgram b × OwnProgram k
   OwnProgram (while i e a k) = (i < 65536) × OwnExpression e × OwnProgram a × OwnProgram k
-  OwnProgram (for i v e a k) = (i < 65536) × Own v × OwnExpression e × OwnProgram a × OwnProgram k
+  OwnProgram (for i v e a k) = (i < 65536) × OwnName v × OwnExpression e × OwnProgram a × OwnProgram k
   OwnProgram (block a k) = OwnProgram a × OwnProgram k
