@@ -5,8 +5,8 @@ use mathlib.Core.List.{List, [], _∷_, _++_, append-assoc, append-nil}
 use native.Mathlib.Nat.{add-zero, add-suc, suc-add, not-suc-le-zero, le-of-suc-le-suc}
 use native.Mathlib.Omega.{arith}
 use native.Mathlib.Numerals.{add-one}
-use lib.ListN.{length, getD, set, take, drop, length-set, replicate, length-replicate, length-drop, drop-of-length-le, take-append-drop}
-use lib.Seq.{sets, take-suc, take-set-le, getD-set-same, getD-set-other, set-out, length-take-le, sets-eq, set-comm, set-set, take-at, drop-at, drop-drop}
+use lib.ListN.{length, getD, set, take, drop, replicate, length-replicate, length-drop, drop-of-length-le, take-append-drop}
+use lib.Seq.{sets, take-suc, take-set-le, getD-set-other, length-take-le, sets-eq, set-comm, set-set, take-at, drop-at, drop-drop}
 
 zero-ne-suc : (n : ℕ) → 0 ≡ suc n → ⊥
 zero-ne-suc n e = omega arith
@@ -31,25 +31,9 @@ module _ {A : Type 0} where
   take-sets [] l i j h = refl
   take-sets (a ∷ xs) l i j h = take-sets xs (set l i a) (suc i) j (omega arith) ∙ take-set-le j l i a h
 
-  pub sets-out : (xs l : List A) (i : ℕ) → length l ≤ i → sets l i xs ≡ l
-  sets-out [] l i h = refl
-  sets-out (a ∷ xs) l i h = ap (λ (k : List A). sets k (suc i) xs) (set-out l i a h) ∙ sets-out xs l (suc i) (omega arith)
-
-  pub getD-sets-before : (xs l : List A) (i j : ℕ) (d : A) → j < i → getD (sets l i xs) j d ≡ getD l j d
-  getD-sets-before [] l i j d h = refl
-  getD-sets-before (a ∷ xs) l i j d h = getD-sets-before xs (set l i a) (suc i) j d (omega arith) ∙ getD-set-other l i j a d (λ e. omega arith)
-
   pub getD-sets-after : (xs l : List A) (i j : ℕ) (d : A) → i + length xs ≤ j → getD (sets l i xs) j d ≡ getD l j d
   getD-sets-after [] l i j d h = refl
   getD-sets-after (a ∷ xs) l i j d h = getD-sets-after xs (set l i a) (suc i) j d (omega arith) ∙ getD-set-other l i j a d (λ e. omega arith)
-
-  pub getD-sets-in : (xs l : List A) (i w : ℕ) (d : A) → i + length xs ≤ length l → w < length xs → getD (sets l i xs) (i + w) d ≡ getD xs w d
-  getD-sets-in [] l i w d h k = absurd (not-suc-le-zero k)
-  getD-sets-in (a ∷ xs) l i zero d h k =
-      ap (λ (j : ℕ). getD (sets (set l i a) (suc i) xs) j d) (add-zero i) ∙ getD-sets-before xs (set l i a) (suc i) i d (omega arith) ∙ getD-set-same l i a d (omega arith)
-  getD-sets-in (a ∷ xs) l i (suc w) d h k =
-      ap (λ (j : ℕ). getD (sets (set l i a) (suc i) xs) j d) (add-suc i w ∙ sym (suc-add i w))
-      ∙ getD-sets-in xs (set l i a) (suc i) w d (omega (arith, length-set l i a)) (le-of-suc-le-suc k)
 
   -- a store beside a run, and a run beside a run
   pub set-sets : (xs l : List A) (i j : ℕ) (b : A) → j < i → set (sets l i xs) j b ≡ sets (set l j b) i xs

@@ -1,14 +1,39 @@
--- A tuple's word, bit and digits, one element a turn.
+-- A table's words, a tuple's word, bit and digits, one element a turn.
 use Prim.Native.Nat.{ℕ, zero, suc, _+_, _-_, _*_, _/_, _%_, _^_, _<_, _≤_}
 use mathlib.Core.Path.{_≡_, refl, sym, ap, ap₂, _∙_}
 use mathlib.Core.List.{List, [], _∷_, _++_, append-assoc, append-nil}
-use native.Mathlib.Nat.{mul-comm, pow-suc, not-suc-le-zero, le-of-suc-le-suc, zero-mul, mul-le-mul-left, lt-of-le-of-lt, zero-lt-suc}
+use native.Mathlib.Nat.{le-trans, pow-zero, pow-le-pow-left, pow-le-pow-right, mul-comm, pow-suc, not-suc-le-zero, le-of-suc-le-suc, zero-mul, mul-le-mul-left, lt-of-le-of-lt, zero-lt-suc}
 use native.Mathlib.Omega.{arith}
 use native.Mathlib.Numerals.{add-one}
 use lib.Arith.{digits-lt}
 use lib.ListN.{length, getD, set, take, drop, length-set}
 use lib.Seq.{drop-cons, getD-set-same, drop-set-lt}
+use Rattle.definition.specs.Tables.{table-words}
 use Rattle.tuples.specs.Places.{digits, word-at, bit-at}
+use Rattle.tuples.proofs.Digits.{words-pow}
+
+pub words-one : (u : ℕ) → 1 ≡ table-words u 1
+unfolding table-words
+words-one u = refl
+
+pub words-step : (u k words : ℕ) → 1 ≤ k → words ≡ table-words u k → u * words ≡ table-words u (k + 1)
+unfolding table-words
+words-step u zero words h e = absurd (not-suc-le-zero h)
+words-step u (suc k) words h e = ap (λ (n : ℕ). u * n) e ∙ ap (table-words u) (sym (add-one (suc k)))
+
+pub words-end : (u n k : ℕ) → 1 ≤ k → n ≤ k → k ≤ suc (n - 1) → table-words u k ≡ table-words u n
+unfolding table-words
+words-end u zero k h l m = ap (table-words u) {x = k} {y = 1} (omega arith)
+words-end u (suc n) k h l m = ap (table-words u) {x = k} {y = suc n} (omega arith)
+
+-- tables of up to 4 columns over at most b elements are small
+pub words-le : (u b n : ℕ) → u ≤ b → 0 < b → n ≤ 4 → table-words u n ≤ b ^ 3
+unfolding table-words
+words-le u b zero h l m = pow-pos-le b 3 l
+  where
+    pow-pos-le : (b k : ℕ) → 0 < b → 1 ≤ b ^ k
+    pow-pos-le b k l = rw (← pow-zero b) (pow-le-pow-right l (omega arith))
+words-le u b (suc n) h l m = rw words-pow (le-trans (pow-le-pow-left h n) (pow-le-pow-right l (le-of-suc-le-suc m)))
 
 pub bit-last : (n : ℕ) (t : List ℕ) → n < length t → getD t n 0 ≡ bit-at (take (suc n) t)
 bit-last n [] h = absurd (not-suc-le-zero h)

@@ -3,7 +3,7 @@ ghost use mathlib.Core.Path.{_≡_};
 ghost use Prim.Native.Nat.{_+_, _≤_, _<_, _^_};
 ghost use lib.ListN.{length, take, drop};
 ghost use lib.Seq.{sets};
-ghost use Rattle.definition.specs.Tables.{holds};
+ghost use Rattle.definition.specs.Tables.{holds, table-words};
 ghost use Rattle.tuples.specs.Places.{digits, word-at, bit-at, with-tuple};
 use bits::set_bit;
 use bits::test_bit;
@@ -13,6 +13,20 @@ fn wide(x: u8) -> usize
     ensures { λ r. ⌜ (r ≡ x) × (r < 256) ⌝ }
 {
     x as usize
+}
+
+// The words of a table.
+pub fn table_words(u: u8, n: usize) -> usize
+    requires { ⌜ n ≤ 4 ⌝ }
+    ensures { λ r. ⌜ r ≡ table-words u n ⌝ }
+{
+    let mut words: usize = 1;
+    let mut k: usize = 1;
+    while k < n {
+        words = u as usize * words;
+        k += 1;
+    }
+    words
 }
 
 // The tuple with number i.
