@@ -3,25 +3,37 @@ use mathlib.Core.Path.{_≡_, refl, sym, ap, _∙_, fun-ext}
 use mathlib.Core.Bool.{Bool, true, false}
 use Prim.Native.Nat.{ℕ, _+_, _-_, _≤_, _<_}
 use native.Mathlib.Omega.{arith}
-use lib.Dec.{eqb, ltb, leb}
+use lib.Dec.{lit<, lit≤}
 use lib.ListN.{length, take, drop}
 use lib.Seq.{length-take-le}
-use borrow.Author.Tests.{lt-ltb, le-ltb, ne-eqb}
+use borrow.Author.Tests.{lt-ltb, le-ltb, lt-leb, ne-eqb}
 use Rattle.definition.specs.Text.{Text, ascii, span, same, is-part, reserved}
 use Rattle.definition.specs.Limits.{WORD-BYTES}
 use Rattle.definition.specs.Token.{Terminal, name, key, token, neither, word, word-terminal, FIRST-WORD, UNDERSCORE}
 use Rattle.texts.proofs.RunLaws.{span-within}
 use Rattle.lexer.specs.declared.Segment.the-variants.{Lexeme}
-use Rattle.lexer.specs.Tokens.{NAME, FIRST-SIGN, terminal-of, quote-of}
-use Rattle.lexer.specs.Segments.{piece-of}
+use Rattle.lexer.specs.Tokens.{NAME, STRING, FIRST-SIGN, terminal-of, quote-of}
+use Rattle.lexer.specs.Segments.{piece-of, Packs}
 
 is-key : (k : ℕ) → k < 26 → (i : ℕ) → terminal-of (FIRST-WORD + k) i ≡ key (FIRST-WORD + k)
 unfolding terminal-of
-is-key k h i = rw (lt-ltb (FIRST-WORD + k) FIRST-SIGN (omega arith))
+is-key k h i =
+    rw (lt-leb FIRST-SIGN (FIRST-WORD + k) (omega arith), ne-eqb (FIRST-WORD + k) NAME (λ z. absurd (omega arith)), ne-eqb (FIRST-WORD + k) STRING (λ z. absurd (omega arith)))
 
 no-quote : (k : ℕ) → k < 26 → quote-of (FIRST-WORD + k) ≡ 0
 unfolding quote-of
-no-quote k h = rw (ne-eqb (FIRST-WORD + k) 48 (λ z. absurd (omega arith)))
+no-quote k h = rw (ne-eqb (FIRST-WORD + k) STRING (λ z. absurd (omega arith)))
+
+pub reserved-packs : (k n : ℕ) → k < 26 → n ≤ WORD-BYTES → Packs (FIRST-WORD + k) n n
+reserved-packs k n h l = record { kind = omega arith; size = omega arith; text = rw (no-quote k h) (omega arith) }
+
+pub name-packs : (n : ℕ) → n ≤ WORD-BYTES → Packs NAME n n
+unfolding quote-of
+name-packs n l = record { kind = lit< tt; size = omega arith; text = omega arith }
+
+pub any-packs : Packs UNDERSCORE 0 1
+unfolding quote-of
+any-packs = record { kind = lit< tt; size = lit< tt; text = lit≤ tt }
 
 module _ (xs : Text) (n : ℕ) (e : n ≡ span is-part xs) where
   size : length (take (span is-part xs) xs) ≡ n

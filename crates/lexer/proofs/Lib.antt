@@ -9,3 +9,4 @@ pub mod Packing
 pub mod Reading
 pub mod Steps
 pub mod Queries
+pub mod Held

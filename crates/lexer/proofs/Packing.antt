@@ -1,19 +1,15 @@
 -- A token's word gives back what was put into it.
 use mathlib.Core.Path.{_≡_, refl, sym, ap, _∙_}
-use mathlib.Core.Bool.{Bool, true, false, cond}
 use Prim.Native.Nat.{ℕ, suc, _+_, _*_, _/_, _%_, _<_}
 use native.Mathlib.Nat.{add-mul-mod-self-left, add-mul-div-left, mod-eq-of-lt, div-eq-of-lt, div-div-eq-div-mul, zero-add}
-use lib.Dec.{eqb, lit<}
+use lib.Dec.{lit<}
 use lib.ListN.{take, drop}
 use lib.Seq.{drop-drop}
 use Rattle.definition.specs.Text.{Text}
 use Rattle.definition.specs.Token.{Token}
-use Rattle.lexer.specs.Tokens.{terminal-of, quote-of, kind-of, size-of, at-of, token-of}
+use Rattle.lexer.specs.Tokens.{terminal-of, quote-of, kind-of, size-of, at-of, start-of, token-of}
 
 module _ (k s a : ℕ) (hk : k < 64) (hs : s < 64) where
-  word : ℕ
-  word = k + 64 * (s + 64 * a)
-
   kind-is : kind-of (k + 64 * (s + 64 * a)) ≡ k
   kind-is = add-mul-mod-self-left k 64 (s + 64 * a) ∙ mod-eq-of-lt hk
 
@@ -34,3 +30,6 @@ module _ (k s a : ℕ) (hk : k < 64) (hs : s < 64) where
   pub token-is : (query : Text) (i : ℕ)
       → token-of query i (k + 64 * (s + 64 * a)) ≡ record { terminal = terminal-of k i; text = take s (drop (quote-of k) (drop a query)); at = a }
   token-is query i = rw (kind-is, size-is, at-is, drop-drop)
+
+  pub start-is : start-of (k + 64 * (s + 64 * a)) + size-of (k + 64 * (s + 64 * a)) ≡ a + quote-of k + s
+  start-is = rw (kind-is, size-is, at-is)

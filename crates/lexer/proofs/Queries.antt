@@ -13,7 +13,7 @@ use Rattle.definition.specs.Text.{Text, span, is-legal}
 use Rattle.definition.specs.Limits.{QUERY-BYTES, TOKENS}
 use Rattle.definition.specs.Answer.{Answer, ok, refused}
 use Rattle.definition.specs.Token.{Token, token-at, tokens, stopped, lex, lexed}
-use Rattle.lexer.specs.Tokens.{token-of, tokens-of}
+use Rattle.lexer.specs.Tokens.{token-of, tokens-of, start-of, size-of, Inside}
 use Rattle.lexer.specs.Scans.{Before}
 use Rattle.lexer.specs.Answers.{query-tokens}
 use Rattle.lexer.proofs.Reading.{after-end, place-token, tokens-ext}
@@ -51,3 +51,9 @@ module _ (query : Text) (short : length query ≤ QUERY-BYTES) where
           (λ i l. let q : i < count = omega (arith, b .many) in
           b .held i q (omega arith) ∙ rw (zero-add i, getD-take count words i 0 q)) in
           rw (le-ltb QUERY-BYTES (length query) short, whole, le-ltb (span is-legal query) (length query) legal, le-ltb TOKENS (length (b .read)) m) (ap ok t)
+
+    -- the tokens' texts
+    pub all-inside : count ≤ TOKENS → TOKENS ≤ length words → Inside query (take count words)
+    all-inside h room i l =
+        let q : i < count = omega (arith, length-take-le count words (omega arith)) in
+        rw (getD-take count words i 0 q) (b .inside i q (omega arith))

@@ -14,7 +14,7 @@ use borrow.Author.Tests.{eq-eqb, ne-eqb}
 use Rattle.definition.specs.Text.{Text}
 use Rattle.definition.specs.Limits.{TOKENS}
 use Rattle.definition.specs.Token.{Token, token-at, place-at, Lexed, tokens, stopped, add, lex}
-use Rattle.lexer.specs.Tokens.{token-of, tokens-of}
+use Rattle.lexer.specs.Tokens.{token-of, tokens-of, start-of, size-of}
 use Rattle.lexer.specs.Scans.{after, Before}
 
 after-add : (ts : List Token) (t : Token) (l : Lexed) → after ts (add t l) ≡ after (ts ++ (t ∷ [])) l
@@ -61,14 +61,14 @@ tokens-ext query n (w ∷ ws) (t ∷ ts) e f =
 
 pub before-none : {query : Text} {words : List ℕ} → Before query words 0 0 (lex query 0 0 0)
 unfolding after
-before-none = record { read = []; whole = refl; many = refl; held = λ i h l. absurd (not-suc-le-zero h); next = λ h. absurd (not-suc-le-zero h) }
+before-none = record { read = []; whole = refl; many = refl; held = λ i h l. absurd (not-suc-le-zero h); inside = λ i h l. absurd (not-suc-le-zero h); next = λ h. absurd (not-suc-le-zero h) }
 
 module _ {query : Text} {words : List ℕ} {count over : ℕ} where
   pub before-same : {rest more : Lexed} → rest ≡ more → Before query words count over rest → Before query words count over more
   before-same e b = subst (Before query words count over) e b
 
   -- one token more, with its word
-  module _ (t : Token) (w : ℕ) (rest : Lexed) (room : TOKENS ≤ length words) (e : token-of query count w ≡ t) (b : Before query words count over (add t rest)) where
+  module _ (t : Token) (w : ℕ) (rest : Lexed) (room : TOKENS ≤ length words) (e : token-of query count w ≡ t) (f : start-of w + size-of w ≤ length query) (b : Before query words count over (add t rest)) where
     last : token-at (b .read ++ (t ∷ [])) count ≡ t
     last = subst (λ (n : ℕ). token-at (b .read ++ (t ∷ [])) n ≡ t) (b .many) (at-last (b .read) t)
 
@@ -85,6 +85,13 @@ module _ {query : Text} {words : List ℕ} {count over : ℕ} where
         earlier i q ∙ b .held i q l ∙ ap (token-of query i) (sym (getD-set-other words count i w 0 (λ z. absurd (omega arith)))))
         (eq-or-lt-of-le (omega arith))
 
+    inside : (i : ℕ) → i < count + 1 → i < TOKENS → start-of (getD (set words count w) i 0) + size-of (getD (set words count w) i 0) ≤ length query
+    inside i h l =
+        ⊎-elim
+        (λ (q : i ≡ count). let m : count < length words = omega arith in rw (q, getD-set-same words count w 0 m) f)
+        (λ (q : i < count). rw (getD-set-other words count i w 0 (λ z. absurd (omega arith))) (b .inside i q l))
+        (eq-or-lt-of-le (omega arith))
+
     next : TOKENS < count + 1 → token-at (b .read ++ (t ∷ [])) TOKENS .at ≡ cond (eqb count TOKENS) (t .at) over
     next h =
         ⊎-elim
@@ -99,5 +106,6 @@ module _ {query : Text} {words : List ℕ} {count over : ℕ} where
       whole = b .whole ∙ after-add (b .read) t rest;
       many = length-append (b .read) (t ∷ []) ∙ ap (λ (n : ℕ). n + 1) (b .many);
       held = held;
+      inside = inside;
       next = next;
     }

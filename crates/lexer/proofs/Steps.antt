@@ -4,6 +4,7 @@ use mathlib.Core.Bool.{cond}
 use mathlib.Core.List.{List, []}
 use Prim.Native.Nat.{ℕ, suc, _+_, _*_, _≤_, _<_}
 use native.Mathlib.Numerals.{add-one}
+use native.Mathlib.Omega.{arith}
 use lib.Dec.{eqb}
 use lib.ListN.{length, take, drop, set}
 use Rattle.definition.specs.Text.{Text}
@@ -15,7 +16,7 @@ use Rattle.lexer.specs.Tokens.{terminal-of, quote-of, token-of}
 use Rattle.lexer.specs.Segments.{piece-of, first-piece, Small}
 use Rattle.lexer.specs.Scans.{Before}
 use Rattle.lexer.proofs.Lexing.{gap-within, token-within, lex-end, lex-gap, lex-token, lex-neither}
-use Rattle.lexer.proofs.Packing.{token-is}
+use Rattle.lexer.proofs.Packing.{token-is, start-is}
 use Rattle.lexer.proofs.Reading.{before-same, before-token, after-stop}
 
 module _ (query : Text) (at : ℕ) (h : at < length query) (s : Segment) (e : piece-of (drop at query) s ≡ first-piece (drop at query)) where
@@ -44,6 +45,7 @@ module _ (query : Text) (at : ℕ) (h : at < length query) (s : Segment) (e : pi
         let f = subst Small q small in
         before-token (record { terminal = terminal-of k count; text = take m (drop (quote-of k) (drop at query)); at = at }) (k + 64 * (m + 64 * at))
         (lex (drop (at + n) query) 0 (at + n) (count + 1)) room (token-is k m at (f .kind) (f .size) query count)
+        (rw (start-is k m at (f .kind) (f .size)) (omega (arith, past-token q, f .text)))
         (before-same (lex-token query at h count (is-token q) ∙ rw (add-one count)) b)
 
 -- the end of the query

@@ -5,7 +5,7 @@ use mathlib.Core.List.{List, [], _∷_}
 use Prim.Native.Nat.{ℕ, zero, suc, _+_, _-_, _≤_, _<_}
 use native.Mathlib.Nat.{add-zero}
 use native.Mathlib.Omega.{arith}
-use lib.Dec.{eqb, leb}
+use lib.Dec.{eqb, leb, lit<}
 use lib.ListN.{length, take, drop, getD}
 use lib.Seq.{drop-drop, getD-drop}
 use borrow.Author.Tests.{le-leb, lt-leb, eq-eqb, ne-eqb}
@@ -14,7 +14,7 @@ use Rattle.definition.specs.Limits.{WORD-BYTES}
 use Rattle.definition.specs.Token.{token, neither, string, quoted}
 use Rattle.lexer.specs.declared.Segment.the-variants.{Lexeme}
 use Rattle.lexer.specs.Tokens.{STRING, terminal-of, sign-of, quote-of}
-use Rattle.lexer.specs.Segments.{piece-of}
+use Rattle.lexer.specs.Segments.{piece-of, Packs}
 
 -- a text of one byte begins a text whose first byte it is; 0 stands for none
 pub starts-one : (b : ℕ) (xs : Text) → eqb b 0 ≡ false → starts (b ∷ []) xs ≡ eqb b (getD xs 0 0)
@@ -55,3 +55,7 @@ module _ (text : Text) (at end : ℕ) (e : end ≡ at + 1 + span in-string (drop
   pub string-long : WORD-BYTES < end - (at + 1) → neither ≡ quoted (drop (at + 1) text)
   unfolding quoted
   string-long h = rw (size, lt-leb (end - (at + 1)) WORD-BYTES h)
+
+pub string-packs : (n : ℕ) → n ≤ WORD-BYTES → Packs STRING n (n + 2)
+unfolding quote-of
+string-packs n l = record { kind = lit< tt; size = omega arith; text = omega arith }

@@ -1,9 +1,10 @@
 -- What the lexer finds at a place of the query, and what that means.
-use Prim.Native.Nat.{ℕ, _<_}
+use Prim.Native.Nat.{ℕ, _+_, _≤_, _<_}
+use mathlib.Core.Path.{_≡_}
 use mathlib.Core.List.{List, [], _∷_}
 use lib.ListN.{take, drop}
 use Rattle.definition.specs.Text.{Text}
-use Rattle.definition.specs.Token.{Piece, gap, token, neither, piece}
+use Rattle.definition.specs.Token.{Piece, gap, token, neither, first-mark, marks, piece}
 use Rattle.lexer.specs.declared.Segment.{Segment}
 use Rattle.lexer.specs.declared.Segment.the-variants.{Gap, Lexeme, Neither}
 use Rattle.lexer.specs.Tokens.{terminal-of, quote-of}
@@ -19,18 +20,18 @@ abbrev pub first-piece : Text → Piece
 first-piece [] = neither
 first-piece (x ∷ xs) = piece x xs
 
--- the kind of a segment's token and the length of its text
-abbrev pub kind-in : Segment → ℕ
-kind-in (Gap n) = 0
-kind-in (Lexeme k m n) = k
-kind-in Neither = 0
+-- a token's kind and the length of its text fit six bits each, and the text lies within the token's n bytes
+pub record Packs (k m n : ℕ) : Type 0 where
+  pub kind : k < 64
+  pub size : m < 64
+  pub text : quote-of k + m ≤ n
 
-abbrev pub size-in : Segment → ℕ
-size-in (Gap n) = 0
-size-in (Lexeme k m n) = m
-size-in Neither = 0
+abbrev pub Small : Segment → Type 0
+Small (Gap n) = Unit {0}
+Small (Lexeme k m n) = Packs k m n
+Small Neither = Unit {0}
 
--- both fit six bits of a word
-pub record Small (s : Segment) : Type 0 where
-  pub kind : kind-in s < 64
-  pub size : size-in s < 64
+-- the longest mark that begins with three bytes
+pub record Marked (x y z : ℕ) (s : Segment) : Type 0 where
+  pub piece : (xs : Text) → piece-of xs s ≡ first-mark marks (x ∷ y ∷ z ∷ [])
+  pub small : Small s

@@ -16,7 +16,8 @@ ghost use Rattle.definition.specs.Text.{Text, ascii, span, starts, is-letter, i
 ghost use Rattle.definition.specs.Token.{first-mark, marks, comment, quoted, word};
 ghost use Rattle.lexer.specs.Answers.{answer, count-of, query-tokens};
 ghost use Rattle.lexer.specs.Scans.{Scanned};
-ghost use Rattle.lexer.specs.Segments.{piece-of, first-piece, Small};
+ghost use Rattle.lexer.specs.Segments.{piece-of, first-piece, Marked, Small};
+ghost use Rattle.lexer.specs.Tokens.{Inside, kind-of, size-of, at-of, start-of};
 
 // What begins at a place of the text: bytes that separate; a token's kind, the length of its text and its own length; or neither.
 enum Segment {
@@ -68,8 +69,7 @@ fn both_ways(y: u8, z: u8, other: Segment) -> Segment
 
 // The longest mark that begins with the bytes x, y and z.
 fn mark_of(x: u8, y: u8, z: u8) -> Segment
-    ensures value { λ r. ⌜ ((xs : Text) → piece-of xs r ≡ first-mark marks (x ∷ y ∷ z ∷ [])) ⌝ }
-    ensures small { λ r. ⌜ Small r ⌝ }
+    ensures { λ r. ⌜ Marked x y z r ⌝ }
 {
     match x {
         b'(' => Segment::Lexeme(0, 0, 1),
@@ -209,6 +209,37 @@ fn segment_at(text: &[u8], at: usize) -> Segment
     mark_of(x, byte_at(text, at + 1), byte_at(text, at + 2))
 }
 
+// A word's parts: the kind of its token,
+pub fn kind(word: u64) -> u64
+    ensures { λ r. ⌜ r ≡ kind-of word ⌝ }
+{
+    word % 64
+}
+
+// the place of its first byte,
+pub fn place(word: u64) -> usize
+    ensures { λ r. ⌜ r ≡ at-of word ⌝ }
+{
+    (word / 4096) as usize
+}
+
+// where its text begins, which is past a string's opening quote,
+pub fn text_start(word: u64) -> usize
+    ensures { λ r. ⌜ r ≡ start-of word ⌝ }
+{
+    if kind(word) == 48 {
+        return place(word) + 1;
+    }
+    place(word)
+}
+
+// and how long its text is.
+pub fn text_length(word: u64) -> usize
+    ensures { λ r. ⌜ r ≡ size-of word ⌝ }
+{
+    (word / 64 % 64) as usize
+}
+
 // The word of a token: six bits for its kind, six for the length of its text, and its place.
 fn packed(kind: u64, size: usize, at: usize) -> u64
     requires { ⌜ (kind < 64) × (size < 64) × (at < 65536) ⌝ }
@@ -274,7 +305,7 @@ fn smaller(a: usize, b: usize) -> usize
 pub fn lex(query: &[u8], words: &mut [u64]) -> Lexed
     requires { ⌜ 2048 ≤ length (now words) ⌝ }
     ensures value { λ r. ⌜ answer (now (query .entry)) (now (words .exit)) r ≡ query-tokens (now (query .entry)) ⌝ }
-    ensures count { λ r. ⌜ count-of r ≤ 2048 ⌝ }
+    ensures within { λ r. ⌜ (count-of r ≤ 2048) × Inside (now (query .entry)) (take (count-of r) (now (words .exit))) ⌝ }
 {
     if 16384 < query.len() {
         return Lexed::Refused(Refusal::QueryTooLong);

@@ -64,7 +64,7 @@ returns c =
     let a = l .before .before .args in
     let e : l .loop .i - a .at + 2 ≡ l .loop .i + 2 - a .at = omega arith in (
       sym (l .loop .inv .2 ∙ comment-closed (now (a .text)) (l .loop .i - a .at) (l .loop .i) (omega arith) (sym (c .before .closes .ensures) ∙ c .if1 .taken) ∙ ap gap e),
-      record { kind = lit< tt; size = lit< tt },
+      tt,
     )
 
 -- src/lib.rt:95:9
@@ -91,7 +91,7 @@ returns-2 : tie.Need-returns-2 Inv-loop μ-loop
 returns-2 c =
     let l = c .before in
     let a = l .before .before .args in
-    (sym (l .loop .inv .2 ∙ comment-out (now (a .text)) (l .loop .i - a .at) (l .loop .i) (omega arith)), record { kind = lit< tt; size = lit< tt })
+    (sym (l .loop .inv .2 ∙ comment-out (now (a .text)) (l .loop .i - a .at) (l .loop .i) (omega arith)), tt)
 
 pub comment-at-spec : {M : Type 1} → statement M
 comment-at-spec =

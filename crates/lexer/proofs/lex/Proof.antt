@@ -2,13 +2,13 @@ use Rattle.lexer.proofs.lex.Statement.{statement}
 use Rattle.lexer.proofs.lex.Tie as tie
 use borrow.Author.Needs.{needs}
 use mathlib.Core.Path.{_≡_, refl, sym, ap, subst, _∙_}
-use native.Mathlib.Nat.{zero-add}
+use native.Mathlib.Nat.{zero-add, not-suc-le-zero}
 use native.Mathlib.Omega.{arith}
 use denote.Ref.{now}
 use lib.ListN.{length}
 use Rattle.definition.specs.Text.{span, is-legal}
 use Rattle.lexer.specs.Scans.{Scanned}
-use Rattle.lexer.proofs.Queries.{too-long, no-token, bad-byte, too-many, all-read}
+use Rattle.lexer.proofs.Queries.{too-long, no-token, bad-byte, too-many, all-read, all-inside}
 use Rattle.lexer.proofs.lex.Reads as reads
 use Rattle.lexer.proofs.lex.Lts as lts
 use Rattle.lexer.proofs.scan_query.Reads as scan-query-reads
@@ -16,7 +16,7 @@ use Rattle.lexer.proofs.smaller.Reads as smaller-reads
 use Rattle.texts.proofs.run_end.Reads as run-end-reads
 
 returns : tie.Need-returns
-returns c = (too-long (now (c .before .before .before .args .query)) (c .if1 .taken), omega arith)
+returns c = (too-long (now (c .before .before .before .args .query)) (c .if1 .taken), (omega arith, λ i l. absurd (not-suc-le-zero l)))
 
 run-end-requires : tie.Need-run-end-requires
 run-end-requires c κs = search needs
@@ -43,7 +43,7 @@ returns-2 c =
     let e = c .before .before .before .before .before .before .before .before .run-end .ensures .0 ∙ zero-add (span is-legal q) in
     let h = c .before .before .before .before .before .before .before .before .before .if1 .left in
     let b = subst (Scanned q (f .last .1 .0)) (c .before .before .count .given .1) (f .ensures) in
-    (rw e (bad-byte q h b (rw e at (c .if2 .taken))), omega arith)
+    (rw e (bad-byte q h b (rw e at (c .if2 .taken))), (omega arith, λ i l. absurd (not-suc-le-zero l)))
 
 same-length-2 : tie.Need-same-length-2
 same-length-2 c = search needs
@@ -55,7 +55,7 @@ returns-3 c =
     let e = c .before .before .before .before .before .before .before .before .before .run-end .ensures .0 ∙ zero-add (span is-legal q) in
     let h = c .before .before .before .before .before .before .before .before .before .before .if1 .left in
     let b = subst (Scanned q (f .last .1 .0)) (c .before .before .before .count .given .1) (f .ensures) in
-    (too-many q h b (rw e at (c .before .if2 .left)) (c .if3 .taken), omega arith)
+    (too-many q h b (rw e at (c .before .if2 .left)) (c .if3 .taken), (omega arith, λ i l. absurd (not-suc-le-zero l)))
 
 same-length-3 : tie.Need-same-length-3
 same-length-3 c = search needs
@@ -67,7 +67,7 @@ returns-4 c =
     let e = c .before .before .before .before .before .before .before .before .run-end .ensures .0 ∙ zero-add (span is-legal q) in
     let h = c .before .before .before .before .before .before .before .before .before .if1 .left in
     let b = subst (Scanned q (f .last .1 .0)) (c .before .before .p .given .1) (f .ensures) in
-    (rw (c .smaller .ensures, e) (no-token q h b), omega arith)
+    (rw (c .smaller .ensures, e) (no-token q h b), (omega arith, λ i l. absurd (not-suc-le-zero l)))
 
 same-length-4 : tie.Need-same-length-4
 same-length-4 c = search needs
@@ -79,7 +79,7 @@ returns-5 c =
     let e = c .before .before .before .before .before .before .before .before .before .run-end .ensures .0 ∙ zero-add (span is-legal q) in
     let h = c .before .before .before .before .before .before .before .before .before .before .if1 .left in
     let b = subst (Scanned q (f .last .1 .0)) (c .before .before .before .count .given .1) (f .ensures) in
-    (all-read q h b (rw e at (c .before .if2 .left)) (c .if3 .left) (omega (arith, f .kept)), c .if3 .left)
+    (all-read q h b (rw e at (c .before .if2 .left)) (c .if3 .left) (omega (arith, f .kept)), (c .if3 .left, all-inside q h b (c .if3 .left) (omega (arith, f .kept))))
 
 pub lex-spec : {M : Type 1} → statement M
 lex-spec =

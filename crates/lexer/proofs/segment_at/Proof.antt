@@ -25,7 +25,7 @@ separates-requires c κs = search needs
 returns : tie.Need-returns
 returns c =
     let a = c .before .before .before .before .args in
-    (separator (now (a .text)) (a .at) (c .before .before .before .before .pre) (sym (c .before .separates .ensures) ∙ c .if1 .taken), record { kind = lit< tt; size = lit< tt })
+    (separator (now (a .text)) (a .at) (c .before .before .before .before .pre) (sym (c .before .separates .ensures) ∙ c .if1 .taken), tt)
 
 slash-at-requires : tie.Need-slash-at-requires
 slash-at-requires c κs = search needs
@@ -75,10 +75,10 @@ returns-5 : tie.Need-returns-5
 returns-5 c =
     let a = c .before .before .before .before .before .before .before .before .before .before .before .args in
     let t = now (a .text) in (
-      c .mark-of .ensures .0 (drop (a .at) t)
+      c .mark-of .ensures .piece (drop (a .at) t)
           ∙ rw (c .before .before .byte-at .ensures, c .before .byte-at2 .ensures)
           (mark t (a .at) (c .before .before .before .before .before .before .before .before .before .before .before .pre) (sym (c .before .before .before .before .before .before .before .before .separates .ensures) ∙ c .before .before .before .before .before .before .before .if1 .left) (c .before .before .before .before .before .before .if2 .left) (sym (c .before .before .before .before .before .is-letter .ensures) ∙ c .before .before .before .before .if3 .left) (c .before .before .before .if4 .left)),
-      c .mark-of .ensures .1,
+      c .mark-of .ensures .small,
     )
 
 pub segment-at-spec : {M : Type 1} → statement M

@@ -47,7 +47,7 @@ returns-2 c =
     let h = c .before .before .before .before .before .pre in
     let e : c .run-end .result - a .at ≡ span (λ y. not (eqb y 10)) (drop (a .at) (now (a .text))) = omega (arith, c .run-end .ensures .0) in (
       rw e (line-comment (now (a .text)) (a .at) (h .0) (h .1) (sym (c .before .before .before .byte-at .ensures) ∙ c .before .if2 .taken)),
-      record { kind = lit< tt; size = lit< tt },
+      tt,
     )
 
 returns-3 : tie.Need-returns-3
@@ -55,7 +55,7 @@ returns-3 c =
     let a = c .before .before .before .before .args in
     let h = c .before .before .before .before .pre in
     let y = c .before .before .byte-at .ensures in
-    (no-comment (now (a .text)) (a .at) (h .0) (h .1) (λ e. c .if2 .left (y ∙ e)) (λ e. c .before .if1 .left (y ∙ e)), record { kind = lit< tt; size = lit< tt })
+    (no-comment (now (a .text)) (a .at) (h .0) (h .1) (λ e. c .if2 .left (y ∙ e)) (λ e. c .before .if1 .left (y ∙ e)), tt)
 
 pub slash-at-spec : {M : Type 1} → statement M
 slash-at-spec =

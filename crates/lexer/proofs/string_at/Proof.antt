@@ -2,10 +2,9 @@ use borrow.Author.Needs.{needs}
 use Rattle.lexer.proofs.string_at.Statement.{statement}
 use Rattle.lexer.proofs.string_at.Tie as tie
 use mathlib.Core.Path.{_≡_, sym, _∙_}
-use native.Mathlib.Omega.{arith}
+use Prim.Native.Nat.{_+_, _-_}
 use denote.Ref.{now}
-use lib.Dec.{lit<}
-use Rattle.lexer.proofs.Strings.{string-closed, string-open, string-long}
+use Rattle.lexer.proofs.Strings.{string-closed, string-open, string-long, string-packs}
 use Rattle.lexer.proofs.string_at.Reads as reads
 use Rattle.lexer.proofs.string_at.Lts as lts
 use Rattle.lexer.proofs.byte_at.Reads as byte-at-reads
@@ -27,7 +26,7 @@ returns : tie.Need-returns
 returns c =
     let f = c .before .run-end in
     let a = c .before .before .before .args in
-    (string-long (now (a .text)) (a .at) (f .result) (f .ensures .0) (c .if1 .taken), record { kind = lit< tt; size = lit< tt })
+    (string-long (now (a .text)) (a .at) (f .result) (f .ensures .0) (c .if1 .taken), tt)
 
 byte-at-requires : tie.Need-byte-at-requires
 byte-at-requires c κs = search needs
@@ -36,7 +35,7 @@ returns-2 : tie.Need-returns-2
 returns-2 c =
     let f = c .before .before .before .run-end in
     let a = c .before .before .before .before .before .args in
-    (string-open (now (a .text)) (a .at) (f .result) (f .ensures .0) (λ e. c .if2 .taken (c .before .byte-at .ensures ∙ e)), record { kind = lit< tt; size = lit< tt })
+    (string-open (now (a .text)) (a .at) (f .result) (f .ensures .0) (λ e. c .if2 .taken (c .before .byte-at .ensures ∙ e)), tt)
 
 add-t5 : tie.Need-add-t5
 add-t5 c = search needs
@@ -46,7 +45,7 @@ returns-3 c =
     let f = c .before .before .before .run-end in
     let a = c .before .before .before .before .before .args in (
       string-closed (now (a .text)) (a .at) (f .result) (f .ensures .0) (c .before .before .if1 .left) (sym (c .before .byte-at .ensures) ∙ c .if2 .left),
-      record { kind = lit< tt; size = omega arith },
+      string-packs (f .result - (a .at + 1)) (c .before .before .if1 .left),
     )
 
 pub string-at-spec : {M : Type 1} → statement M

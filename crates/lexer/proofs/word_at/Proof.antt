@@ -5,11 +5,10 @@ use mathlib.Core.Path.{_≡_, sym, subst, _∙_}
 use Prim.Native.Nat.{ℕ, _+_, _-_, _<_}
 use native.Mathlib.Omega.{arith}
 use denote.Ref.{now}
-use lib.Dec.{lit<}
 use lib.ListN.{drop}
 use Rattle.texts.specs.declared.Word.{Word}
 use Rattle.texts.specs.Words.{index-of}
-use Rattle.lexer.proofs.Identifiers.{word-long, word-any, word-reserved, word-name}
+use Rattle.lexer.proofs.Identifiers.{word-long, word-any, word-reserved, word-name, any-packs, reserved-packs, name-packs}
 use Rattle.lexer.proofs.word_at.Reads as reads
 use Rattle.lexer.proofs.word_at.Lts as lts
 use Rattle.texts.proofs.reserved_word.Reads as reserved-word-reads
@@ -26,7 +25,7 @@ returns : tie.Need-returns
 returns c =
     let a = c .before .before .before .args in
     let e = c .before .run-end in
-    (word-long (drop (a .at) (now (a .text))) (e .result - a .at) (omega (arith, e .ensures .0)) (c .if1 .taken), record { kind = lit< tt; size = lit< tt })
+    (word-long (drop (a .at) (now (a .text))) (e .result - a .at) (omega (arith, e .ensures .0)) (c .if1 .taken), tt)
 
 sub-same : tie.Need-sub-same
 sub-same c = search needs
@@ -48,7 +47,7 @@ returns-2 c =
     let a = c .before .before .before .before .before .before .before .args in
     let e = c .before .before .before .before .before .run-end in (
       word-any (drop (a .at) (now (a .text))) (e .result - a .at) (omega (arith, e .ensures .0)) (c .before .before .before .before .if1 .left) (sym (c .before .same .ensures) ∙ c .if2 .taken),
-      record { kind = lit< tt; size = lit< tt },
+      any-packs,
     )
 
 sub-reserved-word : tie.Need-sub-reserved-word
@@ -83,7 +82,7 @@ returns-3 c =
     let h = subst (λ (w : Word). index-of w < 26) (k .1) (w .ensures .1 .1) in (
       word-reserved (drop (a .at) (now (a .text))) (e .result - a .at) (omega (arith, e .ensures .0)) (c .before .before .before .before .before .before .before .before .before .if1 .left) (k .0 .0) h
           (sym (c .before .before .before .before .before .before .same .ensures) ∙ c .before .before .before .before .before .if2 .left) (λ i. w .ensures .1 .0 i ∙ rw (k .1)),
-      record { kind = omega arith; size = omega (arith, c .before .before .before .before .before .before .before .before .before .if1 .left) },
+      reserved-packs (k .0 .0) (e .result - a .at) h (c .before .before .before .before .before .before .before .before .before .if1 .left),
     )
 
 returns-4 : tie.Need-returns-4
@@ -93,7 +92,7 @@ returns-4 c =
     let w = c .before .before .reserved-word in (
       word-name (drop (a .at) (now (a .text))) (e .result - a .at) (omega (arith, e .ensures .0)) (c .before .before .before .before .before .before .before .before .if1 .left)
           (sym (c .before .before .before .before .before .same .ensures) ∙ c .before .before .before .before .if2 .left) (λ i. w .ensures .1 .0 i ∙ rw (c .enum-told .given .1)),
-      record { kind = lit< tt; size = omega (arith, c .before .before .before .before .before .before .before .before .if1 .left) },
+      name-packs (e .result - a .at) (c .before .before .before .before .before .before .before .before .if1 .left),
     )
 
 pub word-at-spec : {M : Type 1} → statement M

@@ -1,0 +1,133 @@
+-- What words hold, for whoever reads them: by a token's number, from a token on, and as the definition's tokens.
+use mathlib.Core.Path.{_≡_, refl, sym, ap, _∙_}
+use mathlib.Core.Bool.{Bool, true, false, _&&_, cond}
+use mathlib.Core.List.{List, [], _∷_}
+use Prim.Native.Nat.{ℕ, zero, suc, _+_, _-_, _≤_, _<_}
+use native.Mathlib.Nat.{zero-add, add-zero, add-suc, suc-add, not-suc-le-zero, le-of-suc-le-suc}
+use native.Mathlib.Numerals.{add-one}
+use native.Mathlib.Omega.{arith}
+use mathlib.Core.Logic.{_⊎_, ⊎-elim}
+use borrow.Author.Tests.{eqb-true, eqb-false, leb-true}
+use lib.Dec.{eqb, leb, ltb}
+use lib.ListN.{length, take, drop, getD, length-drop, drop-of-length-le}
+use lib.Seq.{length-take-le}
+use Rattle.definition.specs.Text.{Text, between}
+use Rattle.definition.specs.Limits.{QUERY-BYTES, TOKENS}
+use Rattle.definition.specs.Answer.{Answer, ok, refused, _>>=_, _>>_, refuse-if}
+use Rattle.definition.specs.Token.{Sign, Terminal, name, string, sign, key, Token, terminals, token-at, place-at, lexed}
+use Rattle.definition.specs.Reader.{read-program}
+use Rattle.definition.specs.Syntax.{Program, says}
+use Rattle.definition.specs.Accept.{lexed-answer, read-answer, read-query}
+use Rattle.lexer.specs.Tokens.{terminal-of, sign-of, sign-kind, kind-for, kind-of, size-of, at-of, start-of, token-of, tokens-of, terminals-of, Inside, FIRST-SIGN, LAST-SIGN, NAME, STRING}
+use Rattle.lexer.proofs.Marks.{either-way}
+use Rattle.lexer.proofs.Sizes.{first, second}
+use Rattle.lexer.specs.Answers.{query-tokens}
+
+-- as many tokens as words
+pub length-tokens : (query : Text) (n : ℕ) (ws : List ℕ) → length (tokens-of query n ws) ≡ length ws
+unfolding tokens-of
+length-tokens query n [] = refl
+length-tokens query n (w ∷ ws) = ap suc (length-tokens query (suc n) ws)
+
+pub length-terminals : (n : ℕ) (ws : List ℕ) → length (terminals-of n ws) ≡ length ws
+unfolding terminals-of
+length-terminals n [] = refl
+length-terminals n (w ∷ ws) = ap suc (length-terminals (suc n) ws)
+
+-- what the grammar sees needs no query
+pub terminals-held : (query : Text) (n : ℕ) (ws : List ℕ) → terminals (tokens-of query n ws) ≡ terminals-of n ws
+unfolding tokens-of terminals-of
+terminals-held query n [] = refl
+terminals-held query n (w ∷ ws) = ap (λ (ts : List Terminal). terminal-of (kind-of w) n ∷ ts) (terminals-held query (suc n) ws)
+
+token-from : (query : Text) (n : ℕ) (ws : List ℕ) (i : ℕ) → i < length ws → token-at (tokens-of query n ws) i ≡ token-of query (n + i) (getD ws i 0)
+unfolding tokens-of
+token-from query n [] i h = absurd (not-suc-le-zero h)
+token-from query n (w ∷ ws) zero h = ap (λ (m : ℕ). token-of query m w) (sym (add-zero n))
+token-from query n (w ∷ ws) (suc i) h =
+    token-from query (suc n) ws i (le-of-suc-le-suc h) ∙ ap (λ (m : ℕ). token-of query m (getD ws i 0)) (suc-add n i ∙ sym (add-suc n i))
+
+drop-from : (n : ℕ) (ws : List ℕ) (i : ℕ) → i < length ws → drop i (terminals-of n ws) ≡ terminal-of (kind-of (getD ws i 0)) (n + i) ∷ drop (suc i) (terminals-of n ws)
+unfolding terminals-of
+drop-from n [] i h = absurd (not-suc-le-zero h)
+drop-from n (w ∷ ws) zero h = ap (λ (m : ℕ). terminal-of (kind-of w) m ∷ terminals-of (suc n) ws) (sym (add-zero n))
+drop-from n (w ∷ ws) (suc i) h =
+    drop-from (suc n) ws i (le-of-suc-le-suc h) ∙ ap (λ (m : ℕ). terminal-of (kind-of (getD ws i 0)) m ∷ drop (suc i) (terminals-of (suc n) ws)) (suc-add n i ∙ sym (add-suc n i))
+
+-- a token by its number
+module _ (query : Text) (ws : List ℕ) (i : ℕ) (h : i < length ws) where
+  pub token-held : token-at (tokens-of query 0 ws) i ≡ token-of query i (getD ws i 0)
+  token-held = token-from query 0 ws i h ∙ ap (λ (m : ℕ). token-of query m (getD ws i 0)) (zero-add i)
+
+  -- its text has the word's length
+  pub length-text : Inside query ws → length (token-at (tokens-of query 0 ws) i .text) ≡ size-of (getD ws i 0)
+  length-text f = ap (λ (t : Token). length (t .text)) token-held ∙ length-take-le (size-of (getD ws i 0)) (drop (start-of (getD ws i 0)) query) (rw (length-drop (start-of (getD ws i 0)) query) (omega (arith, f i h)))
+
+-- what the grammar sees from a token on
+module _ (ws : List ℕ) (i : ℕ) where
+  pub terminals-next : i < length ws → drop i (terminals-of 0 ws) ≡ terminal-of (kind-of (getD ws i 0)) i ∷ drop (i + 1) (terminals-of 0 ws)
+  terminals-next h = drop-from 0 ws i h ∙ rw (zero-add i, add-one i)
+
+  pub terminals-end : length ws ≤ i → drop i (terminals-of 0 ws) ≡ []
+  terminals-end h = drop-of-length-le (terminals-of 0 ws) {i = i} (omega (arith, length-terminals 0 ws))
+
+-- the place of a token, and past the last the query's length
+place-from : (query : Text) (n m : ℕ) (ws : List ℕ) (i : ℕ) → i < length ws → place-at m (tokens-of query n ws) i ≡ at-of (getD ws i 0)
+unfolding tokens-of
+place-from query n m [] i h = absurd (not-suc-le-zero h)
+place-from query n m (w ∷ ws) zero h = refl
+place-from query n m (w ∷ ws) (suc i) h = place-from query (suc n) m ws i (le-of-suc-le-suc h)
+
+pub place-held : (query : Text) (m : ℕ) (ws : List ℕ) (i : ℕ) → i < length ws → place-at m (tokens-of query 0 ws) i ≡ at-of (getD ws i 0)
+place-held query m ws i h = place-from query 0 m ws i h
+
+pub place-past : (m : ℕ) (ts : List Token) (i : ℕ) → length ts ≤ i → place-at m ts i ≡ m
+place-past m [] i h = refl
+place-past m (t ∷ ts) zero h = absurd (not-suc-le-zero h)
+place-past m (t ∷ ts) (suc i) h = place-past m ts i (le-of-suc-le-suc h)
+
+-- a kind is known by what the grammar sees of it
+sign-seen : (k : ℕ) → FIRST-SIGN ≤ k → k ≤ LAST-SIGN → sign-kind (sign-of k) ≡ k
+unfolding sign-of
+sign-seen k a b =
+    ⊎-elim (λ (e : eqb k 41 ≡ true). rw e (sym (eqb-true k 41 e)))
+    (λ (e : eqb k 41 ≡ false). ⊎-elim (λ (f : eqb k 42 ≡ true). rw (e, f) (sym (eqb-true k 42 f)))
+    (λ (f : eqb k 42 ≡ false). ⊎-elim (λ (g : eqb k 43 ≡ true). rw (e, f, g) (sym (eqb-true k 43 g)))
+    (λ (g : eqb k 43 ≡ false). ⊎-elim (λ (h : eqb k 44 ≡ true). rw (e, f, g, h) (sym (eqb-true k 44 h)))
+    (λ (h : eqb k 44 ≡ false). ⊎-elim (λ (j : eqb k 45 ≡ true). rw (e, f, g, h, j) (sym (eqb-true k 45 j)))
+    (λ (j : eqb k 45 ≡ false).
+    let e' = eqb-false k 41 e in
+    let f' = eqb-false k 42 f in
+    let g' = eqb-false k 43 g in
+    let h' = eqb-false k 44 h in
+    let j' = eqb-false k 45 j in
+    rw (e, f, g, h, j) (omega arith))
+    (either-way (eqb k 45))) (either-way (eqb k 44))) (either-way (eqb k 43))) (either-way (eqb k 42))) (either-way (eqb k 41))
+
+pub kind-seen : (k i : ℕ) → kind-for (terminal-of k i) ≡ k
+unfolding terminal-of
+kind-seen k i =
+    ⊎-elim (λ (e : between FIRST-SIGN LAST-SIGN k ≡ true).
+    rw e (sign-seen k (leb-true FIRST-SIGN k (first (leb FIRST-SIGN k) (leb k LAST-SIGN) e)) (leb-true k LAST-SIGN (second (leb FIRST-SIGN k) (leb k LAST-SIGN) e))))
+    (λ (e : between FIRST-SIGN LAST-SIGN k ≡ false). ⊎-elim (λ (f : eqb k NAME ≡ true). rw (e, f) (sym (eqb-true k NAME f)))
+    (λ (f : eqb k NAME ≡ false). ⊎-elim (λ (g : eqb k STRING ≡ true). rw (e, f, g) (sym (eqb-true k STRING g))) (λ (g : eqb k STRING ≡ false). rw (e, f, g))
+    (either-way (eqb k STRING))) (either-way (eqb k NAME))) (either-way (between FIRST-SIGN LAST-SIGN k))
+
+-- the tokens, and then the reader: the definition's `read-query`
+after-tokens : (long : Bool) (r p : ℕ) (l : Answer (List Token)) (n : ℕ) (rest : List Token → Answer Program)
+    → _>>_ (refuse-if long r p) (_>>=_ l (λ ts. _>>_ (refuse-if (ltb TOKENS (length ts)) 13 (place-at n ts TOKENS)) (rest ts)))
+    ≡ _>>=_ (_>>_ (refuse-if long r p) (_>>=_ l (λ ts. _>>_ (refuse-if (ltb TOKENS (length ts)) 13 (place-at n ts TOKENS)) (ok ts)))) rest
+after-tokens true r p l n rest = refl
+after-tokens false r p (refused s q) n rest = refl
+after-tokens false r p (ok ts) n rest = go (ltb TOKENS (length ts))
+  where
+    go : (b : Bool) → _>>_ (refuse-if b 13 (place-at n ts TOKENS)) (rest ts) ≡ _>>=_ (_>>_ (refuse-if b 13 (place-at n ts TOKENS)) (ok ts)) rest
+    go true = refl
+    go false = refl
+
+pub query-read : (query : Text)
+    → read-query query ≡ _>>=_ (query-tokens query) (λ ts. _>>=_ (read-answer (length query) ts (read-program (terminals ts))) (λ p. ok (says ts p)))
+unfolding read-query query-tokens
+query-read query =
+    after-tokens (ltb QUERY-BYTES (length query)) 8 QUERY-BYTES (lexed-answer (lexed query)) (length query)
+    (λ ts. _>>=_ (read-answer (length query) ts (read-program (terminals ts))) (λ p. ok (says ts p)))
