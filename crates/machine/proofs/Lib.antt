@@ -1,0 +1,4 @@
+-- Laws of the step loop: what is left of a set, the open FORs, one step of each kind, and the machine in the definition's run.
+pub mod Members
+pub mod Frames
+pub mod Steps
