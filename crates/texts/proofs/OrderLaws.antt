@@ -2,7 +2,7 @@
 use Prim.Native.Nat.{ℕ, suc, _+_, _<_, _≤_}
 use mathlib.Core.Path.{_≡_, refl, sym, ap, _∙_}
 use mathlib.Core.List.{List, [], _∷_}
-use mathlib.Core.Bool.{Bool, true, false, _&&_}
+use mathlib.Core.Bool.{Bool, true, false, _&&_, cond}
 use native.Mathlib.Numerals.{add-one}
 use native.Mathlib.Omega.{arith}
 use lib.Dec.{eqb}
@@ -11,6 +11,7 @@ use lib.Seq.{drop-cons}
 use borrow.Author.Tests.{lt-ltb, le-ltb, eq-eqb, ne-eqb}
 use Rattle.definition.specs.Text.{Text, same, earlier}
 use Rattle.texts.specs.Orders.{order}
+use Rattle.texts.specs.declared.Order.{Order}
 use Rattle.texts.specs.declared.Order.the-variants.{Before, Same, After}
 
 module _ (s t : Text) (i : ℕ) where
@@ -58,3 +59,38 @@ same-length [] [] h = absurd (h refl)
 same-length [] (y ∷ ys) h = refl
 same-length (x ∷ xs) [] h = refl
 same-length (x ∷ xs) (y ∷ ys) h = rw (same-length xs ys (λ e. h (rw e))) (and-false (eqb x y))
+
+-- what an order says of equality and of the definition's byte order
+by-tests : Bool → Bool → Order
+by-tests a b = cond a Same (cond b Before After)
+
+tests-same : (a b : Bool) → by-tests a b ≡ Same → a ≡ true
+unfolding by-tests
+tests-same true b e = refl
+tests-same false true e = let z : _≡_ {A = ℕ} 0 1 = cc in absurd (omega arith)
+tests-same false false e = let z : _≡_ {A = ℕ} 0 1 = cc in absurd (omega arith)
+
+tests-before : (a b : Bool) → by-tests a b ≡ Before → (a ≡ false) × (b ≡ true)
+unfolding by-tests
+tests-before true b e = let z : _≡_ {A = ℕ} 0 1 = cc in absurd (omega arith)
+tests-before false true e = (refl, refl)
+tests-before false false e = let z : _≡_ {A = ℕ} 0 1 = cc in absurd (omega arith)
+
+tests-after : (a b : Bool) → by-tests a b ≡ After → (a ≡ false) × (b ≡ false)
+unfolding by-tests
+tests-after true b e = let z : _≡_ {A = ℕ} 0 1 = cc in absurd (omega arith)
+tests-after false true e = let z : _≡_ {A = ℕ} 0 1 = cc in absurd (omega arith)
+tests-after false false e = (refl, refl)
+
+module _ (s t : Text) where
+  pub is-same : order s t ≡ Same → same s t ≡ true
+  unfolding order by-tests
+  is-same e = tests-same (same s t) (earlier s t) e
+
+  pub is-before : order s t ≡ Before → (same s t ≡ false) × (earlier s t ≡ true)
+  unfolding order by-tests
+  is-before e = tests-before (same s t) (earlier s t) e
+
+  pub is-after : order s t ≡ After → (same s t ≡ false) × (earlier s t ≡ false)
+  unfolding order by-tests
+  is-after e = tests-after (same s t) (earlier s t) e

@@ -1,0 +1,35 @@
+-- Lists of parts: those of the universe stand in byte order, and a tag of 1 says that some fact quoted the element.
+use Prim.Native.Nat.{ℕ, _+_}
+use mathlib.Core.Path.{_≡_}
+use mathlib.Core.Bool.{Bool, _&&_, not}
+use mathlib.Core.List.{List, [], _∷_, _++_}
+use lib.Dec.{ltb, eqb}
+use lib.ListN.{length, take, drop}
+use Rattle.definition.specs.Text.{if_then_else_, Text, same, earlier, span}
+use Rattle.parts.specs.Packed.{tag-of, text-of}
+use Rattle.parts.specs.declared.Entered.{Entered}
+use Rattle.parts.specs.declared.Entered.the-variants.{Count, Full}
+
+-- w, quoted if v is
+unfoldable pub quoted-too : ℕ → ℕ → ℕ
+quoted-too v w = if eqb (tag-of v) 1 && eqb (tag-of w) 0 then (w + 1) else w
+
+module _ (facts query : Text) where
+  -- how many parts stand before the first that has the text of v
+  unfoldable pub index : ℕ → List ℕ → ℕ
+  index v ws = span (λ w. not (same (text-of facts query v) (text-of facts query w))) ws
+
+  -- a set of parts in byte order, with one more: of equal texts the first part stays
+  unfoldable pub enter : ℕ → List ℕ → List ℕ
+  enter v [] = v ∷ []
+  enter v (w ∷ ws) = let r = enter v ws in
+      if same (text-of facts query v) (text-of facts query w) then (quoted-too v w ∷ ws)
+      else if earlier (text-of facts query v) (text-of facts query w) then (v ∷ w ∷ ws)
+      else (w ∷ r)
+
+-- the list es in place of the first words, and whether there is room for it
+abbrev pub in-front : List ℕ → List ℕ → List ℕ
+in-front es words = if ltb (length words) (length es) then words else (es ++ drop (length es) words)
+
+abbrev pub count-in : List ℕ → List ℕ → Entered
+count-in es words = if ltb (length words) (length es) then Full else (Count (length es))
