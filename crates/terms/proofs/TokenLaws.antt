@@ -1,0 +1,202 @@
+-- What the kind of a token says of what the grammar sees from there on.
+use mathlib.Core.List.{List, [], _∷_, map}
+use mathlib.Core.Bool.{Bool, true, false}
+use mathlib.Core.Path.{_≡_, refl, ap, sym, subst, _∙_}
+use native.Mathlib.Omega.{arith}
+use Prim.Native.Nat.{ℕ, zero, suc, _+_, _≤_, _<_}
+use lib.Dec.{eqb, ltb}
+use lib.ListN.{length, drop, getD}
+use borrow.Author.Tests.{eq-eqb, ne-eqb, lt-ltb, le-ltb, ltb-true, ltb-false, eqb-true, eqb-false}
+use Rattle.definition.proofs.GrammarReads.{Next, nothing, a-name, a-string, a-sign, a-key, next}
+use Rattle.definition.specs.Text.{if_then_else_}
+use Rattle.definition.specs.Token.{Sign, equal, unequal, less, at-most, greater, at-least, Terminal, name, string, sign, key, Token, terminals, token-at}
+use Rattle.terms.specs.Phrases.{kind-in, usual, seen, Holds}
+use Rattle.words.specs.Raw.{number, sign-number}
+use Rattle.lexer.specs.Tokens.{terminal-of, terminals-of, sign-of, kind-of, at-of}
+
+pub kind-past : (ws : List ℕ) (p : ℕ) → length ws ≤ p → kind-in ws p ≡ 64
+unfolding kind-in
+kind-past [] p h = refl
+kind-past (w ∷ ws) zero h = absurd (omega arith)
+kind-past (w ∷ ws) (suc p) h = kind-past ws p (omega arith)
+
+pub kind-here : (ws : List ℕ) (p : ℕ) → p < length ws → kind-in ws p ≡ usual (kind-of (getD ws p 0))
+unfolding kind-in
+kind-here [] p h = absurd (omega arith)
+kind-here (w ∷ ws) zero h = refl
+kind-here (w ∷ ws) (suc p) h = kind-here ws p (omega arith)
+
+pub kind-low : (ws : List ℕ) (p : ℕ) → p < length ws → kind-of (getD ws p 0) < 49 → kind-of (getD ws p 0) ≡ kind-in ws p
+kind-low ws p h i = sym (kind-here ws p h ∙ ap (λ b. if b then (kind-of (getD ws p 0)) else 46) (lt-ltb (kind-of (getD ws p 0)) 49 i))
+
+pub kind-high : (ws : List ℕ) (p : ℕ) → p < length ws → 49 ≤ kind-of (getD ws p 0) → 46 ≡ kind-in ws p
+kind-high ws p h i = sym (kind-here ws p h ∙ ap (λ b. if b then (kind-of (getD ws p 0)) else 46) (le-ltb (kind-of (getD ws p 0)) 49 i))
+
+usual-small : (k : ℕ) → usual k ≤ 48
+usual-small k = at (ltb k 49) refl
+  where
+    at : (b : Bool) → ltb k 49 ≡ b → (if b then k else 46) ≤ 48
+    at true e = let h = ltb-true k 49 e in omega arith
+    at false e = omega arith
+
+-- a kind that is one of a token
+pub kind-within : (ws : List ℕ) (p : ℕ) → kind-in ws p < 64 → p < length ws
+unfolding kind-in
+kind-within [] p h = absurd (omega arith)
+kind-within (w ∷ ws) zero h = omega arith
+kind-within (w ∷ ws) (suc p) h = let i = kind-within ws p h in omega arith
+
+pub kind-small : (ws : List ℕ) (p : ℕ) → p < length ws → kind-in ws p ≤ 48
+kind-small ws p h = subst (λ k. k ≤ 48) (sym (kind-here ws p h)) (usual-small (kind-of (getD ws p 0)))
+
+-- the terminals of the kinds
+pub key-terminal : (k i : ℕ) → k < 41 → terminal-of k i ≡ key k
+unfolding terminal-of
+key-terminal k i h = simp (lt-ltb k 41 h)
+
+pub name-terminal : (i : ℕ) → terminal-of 47 i ≡ name i
+unfolding terminal-of
+name-terminal i = refl
+
+pub string-terminal : (i : ℕ) → terminal-of 48 i ≡ string i
+unfolding terminal-of
+string-terminal i = refl
+
+pub sign-terminal : (k i : ℕ) → 41 ≤ k → (k ≡ 47 → ⊥) → (k ≡ 48 → ⊥) → terminal-of k i ≡ sign (sign-of k)
+unfolding terminal-of
+sign-terminal k i h a b = simp (le-ltb k 41 h, ne-eqb k 47 a, ne-eqb k 48 b)
+
+big-sign : (k : ℕ) → 46 ≤ k → sign-of k ≡ at-least
+unfolding sign-of
+big-sign k h = simp (ne-eqb k 41 (λ e. omega arith), ne-eqb k 42 (λ e. omega arith), ne-eqb k 43 (λ e. omega arith), ne-eqb k 44 (λ e. omega arith), ne-eqb k 45 (λ e. omega arith))
+
+usual-terminal : (k i : ℕ) → terminal-of k i ≡ terminal-of (usual k) i
+usual-terminal k i = at (ltb k 49) refl
+  where
+    at : (b : Bool) → ltb k 49 ≡ b → terminal-of k i ≡ terminal-of (if b then k else 46) i
+    at true e = refl
+    at false e =
+        let h = ltb-false k 49 e in
+        sign-terminal k i (omega arith) (λ i. omega arith) (λ i. omega arith) ∙ ap sign (big-sign k (omega arith)) ∙ sym (sign-terminal 46 i (omega arith) (λ i. omega arith) (λ i. omega arith) ∙ ap sign (big-sign 46 (omega arith)))
+
+first-from : (ws : List ℕ) (p i : ℕ) → p < length ws → drop p (terminals-of i ws) ≡ terminal-of (kind-in ws p) (p + i) ∷ drop (suc p) (terminals-of i ws)
+unfolding kind-in terminals-of
+first-from [] p i h = absurd (omega arith)
+first-from (w ∷ ws) zero i h = let e : i ≡ 0 + i = omega arith in ap (λ t. t ∷ terminals-of (suc i) ws) (usual-terminal (kind-of w) i ∙ ap (terminal-of (usual (kind-of w))) e)
+first-from (w ∷ ws) (suc p) i h = let e : p + suc i ≡ suc p + i = omega arith in first-from ws p (suc i) (omega arith) ∙ ap (λ j. terminal-of (kind-in ws p) j ∷ drop (suc p) (terminals-of (suc i) ws)) e
+
+-- the token at p stands first of what is seen from p on
+pub first : (ws : List ℕ) (p : ℕ) → p < length ws → drop p (seen ws) ≡ terminal-of (kind-in ws p) p ∷ drop (p + 1) (seen ws)
+first ws p h = let e : suc p ≡ p + 1 = omega arith in let f : p + 0 ≡ p = omega arith in first-from ws p 0 h ∙ ap (λ i. terminal-of (kind-in ws p) i ∷ drop (suc p) (seen ws)) f ∙ ap (λ j. terminal-of (kind-in ws p) p ∷ drop j (seen ws)) e
+
+module _ (ws : List ℕ) (p : ℕ) where
+  at-kind : (k : ℕ) → kind-in ws p ≡ k → k < 64 → drop p (seen ws) ≡ terminal-of k p ∷ drop (p + 1) (seen ws)
+  at-kind k e h = first ws p (kind-within ws p (omega arith)) ∙ ap (λ j. terminal-of j p ∷ drop (p + 1) (seen ws)) e
+
+  pub key-first : {k : ℕ} → kind-in ws p ≡ k → k < 41 → drop p (seen ws) ≡ key k ∷ drop (p + 1) (seen ws)
+  key-first {k} e h = at-kind k e (omega arith) ∙ ap (λ t. t ∷ drop (p + 1) (seen ws)) (key-terminal k p h)
+
+  -- the same, where what follows is named otherwise
+  pub key-then : {k : ℕ} (r : ℕ) → p + 1 ≡ r → kind-in ws p ≡ k → k < 41 → drop p (seen ws) ≡ key k ∷ drop r (seen ws)
+  key-then {k} r i e h = key-first e h ∙ ap (λ j. key k ∷ drop j (seen ws)) i
+
+  pub name-first : kind-in ws p ≡ 47 → drop p (seen ws) ≡ name p ∷ drop (p + 1) (seen ws)
+  name-first e = at-kind 47 e (omega arith) ∙ ap (λ t. t ∷ drop (p + 1) (seen ws)) (name-terminal p)
+
+  pub string-first : kind-in ws p ≡ 48 → drop p (seen ws) ≡ string p ∷ drop (p + 1) (seen ws)
+  string-first e = at-kind 48 e (omega arith) ∙ ap (λ t. t ∷ drop (p + 1) (seen ws)) (string-terminal p)
+
+  pub sign-first : 41 ≤ kind-in ws p → kind-in ws p ≤ 46 → drop p (seen ws) ≡ sign (sign-of (kind-in ws p)) ∷ drop (p + 1) (seen ws)
+  sign-first h i = at-kind (kind-in ws p) refl (omega arith) ∙ ap (λ t. t ∷ drop (p + 1) (seen ws)) (sign-terminal (kind-in ws p) p h (λ e. omega arith) (λ e. omega arith))
+
+-- the number of a sign among the six
+pub sign-code : (k : ℕ) → 41 ≤ k → k ≤ 46 → sign-number (sign-of k) + 41 ≡ k
+unfolding sign-of
+sign-code k h i = by (eqb k 41) refl (eqb k 42) refl (eqb k 43) refl (eqb k 44) refl (eqb k 45) refl
+  where
+    by : (a : Bool) → eqb k 41 ≡ a → (b : Bool) → eqb k 42 ≡ b → (c : Bool) → eqb k 43 ≡ c → (d : Bool) → eqb k 44 ≡ d → (e : Bool) → eqb k 45 ≡ e
+        → sign-number (if a then equal else if b then unequal else if c then less else if d then at-most else if e then greater else at-least) + 41 ≡ k
+    by true x b y c z d u e v = sym (eqb-true k 41 x)
+    by false x true y c z d u e v = sym (eqb-true k 42 y)
+    by false x false y true z d u e v = sym (eqb-true k 43 z)
+    by false x false y false z true u e v = sym (eqb-true k 44 u)
+    by false x false y false z false u true v = sym (eqb-true k 45 v)
+    by false x false y false z false u false v =
+        let x′ = eqb-false k 41 x in let y′ = eqb-false k 42 y in let z′ = eqb-false k 43 z in let u′ = eqb-false k 44 u in let v′ = eqb-false k 45 v in omega arith
+
+pub sign-small : (g : Sign) → sign-number g ≤ 5
+sign-small equal = omega arith
+sign-small unequal = omega arith
+sign-small less = omega arith
+sign-small at-most = omega arith
+sign-small greater = omega arith
+sign-small at-least = omega arith
+
+-- the kind of what stands next
+abbrev code : Next → ℕ
+code nothing = 64
+code a-name = 47
+code a-string = 48
+code (a-sign g) = sign-number g + 41
+code (a-key k) = k
+
+code-of : (k i : ℕ) (l : List Terminal) → k ≤ 48 → code (next (terminal-of k i ∷ l)) ≡ k
+code-of k i l h = at (ltb k 41) refl (eqb k 47) refl (eqb k 48) refl
+  where
+    at : (a : Bool) → ltb k 41 ≡ a → (b : Bool) → eqb k 47 ≡ b → (c : Bool) → eqb k 48 ≡ c → code (next (terminal-of k i ∷ l)) ≡ k
+    at true x b y c z = ap (λ t. code (next (t ∷ l))) (key-terminal k i (ltb-true k 41 x))
+    at false x true y c z = let e = eqb-true k 47 y in ap (λ t. code (next (t ∷ l))) (ap (λ j. terminal-of j i) e ∙ name-terminal i) ∙ sym e
+    at false x false y true z = let e = eqb-true k 48 z in ap (λ t. code (next (t ∷ l))) (ap (λ j. terminal-of j i) e ∙ string-terminal i) ∙ sym e
+    at false x false y false z =
+        let g = ltb-false k 41 x in let m = eqb-false k 47 y in let n = eqb-false k 48 z in
+        ap (λ t. code (next (t ∷ l))) (sign-terminal k i g m n) ∙ sign-code k g (omega arith)
+
+drop-past : (ws : List ℕ) (p i : ℕ) → length ws ≤ p → drop p (terminals-of i ws) ≡ []
+unfolding terminals-of
+drop-past [] zero i h = refl
+drop-past [] (suc p) i h = refl
+drop-past (w ∷ ws) zero i h = absurd (omega arith)
+drop-past (w ∷ ws) (suc p) i h = drop-past ws p (suc i) (omega arith)
+
+pub next-kind : (ws : List ℕ) (p : ℕ) → code (next (drop p (seen ws))) ≡ kind-in ws p
+next-kind ws p = at (ltb p (length ws)) refl
+  where
+    at : (b : Bool) → ltb p (length ws) ≡ b → code (next (drop p (seen ws))) ≡ kind-in ws p
+    at true e = let h = ltb-true p (length ws) e in ap (λ l. code (next l)) (first ws p h) ∙ code-of (kind-in ws p) p (drop (p + 1) (seen ws)) (kind-small ws p h)
+    at false e = let h = ltb-false p (length ws) e in ap (λ l. code (next l)) (drop-past ws p 0 h) ∙ sym (kind-past ws p h)
+
+module _ (ws : List ℕ) (p : ℕ) where
+  pub not-key : {k : ℕ} → (kind-in ws p ≡ k → ⊥) → next (drop p (seen ws)) ≡ a-key k → ⊥
+  not-key h e = h (sym (next-kind ws p) ∙ ap code e)
+
+  pub not-name : (kind-in ws p ≡ 47 → ⊥) → next (drop p (seen ws)) ≡ a-name → ⊥
+  not-name h e = h (sym (next-kind ws p) ∙ ap code e)
+
+  pub not-string : (kind-in ws p ≡ 48 → ⊥) → next (drop p (seen ws)) ≡ a-string → ⊥
+  not-string h e = h (sym (next-kind ws p) ∙ ap code e)
+
+  pub not-sign : (41 ≤ kind-in ws p → kind-in ws p ≤ 46 → ⊥) → (g : Sign) → next (drop p (seen ws)) ≡ a-sign g → ⊥
+  not-sign h g e = let i : kind-in ws p ≡ sign-number g + 41 = sym (next-kind ws p) ∙ ap code e in h (omega (arith, sign-small g)) (omega (arith, sign-small g))
+
+-- the tokens that the words hold
+terminal-at : (ts : List Token) (p : ℕ) (t : Terminal) (l : List Terminal) → drop p (terminals ts) ≡ t ∷ l → token-at ts p .terminal ≡ t
+terminal-at [] zero t l e = absurd (let z : _≡_ {A = ℕ} 0 1 = cc in omega arith)
+terminal-at [] (suc p) t l e = absurd (let z : _≡_ {A = ℕ} 0 1 = cc in omega arith)
+terminal-at (u ∷ ts) zero t l e = cc
+terminal-at (u ∷ ts) (suc p) t l e = terminal-at ts p t l e
+
+module _ {ws : List ℕ} {ts : List Token} (h : Holds ws ts) (p : ℕ) where
+  pub name-number : kind-in ws p ≡ 47 → number (token-at ts p) ≡ p
+  name-number e = simp (terminal-at ts p (name p) _ (ap (drop p) (h .same) ∙ name-first ws p e))
+
+  pub string-number : kind-in ws p ≡ 48 → number (token-at ts p) ≡ p
+  string-number e = simp (terminal-at ts p (string p) _ (ap (drop p) (h .same) ∙ string-first ws p e))
+
+  pub place-of : p < length ws → token-at ts p .at ≡ at-of (getD ws p 0)
+  place-of l = by ts ws p l (h .places)
+    where
+      by : (ts : List Token) (ws : List ℕ) (p : ℕ) → p < length ws → map (λ t. t .at) ts ≡ map at-of ws → token-at ts p .at ≡ at-of (getD ws p 0)
+      by ts [] p l e = absurd (omega arith)
+      by [] (w ∷ ws) p l e = absurd (let z : _≡_ {A = ℕ} 0 1 = cc in omega arith)
+      by (t ∷ ts) (w ∷ ws) zero l e = cc
+      by (t ∷ ts) (w ∷ ws) (suc p) l e = by ts ws p (omega arith) (cc)

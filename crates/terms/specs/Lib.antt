@@ -1,0 +1,3 @@
+-- What the functions that read phrases answer.
+pub mod Phrases
+pub mod Terms
