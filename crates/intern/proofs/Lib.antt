@@ -1,0 +1,2 @@
+-- Laws of the numbers of names.
+pub mod Numbering

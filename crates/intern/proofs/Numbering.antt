@@ -1,0 +1,134 @@
+-- The numbers of names tell their texts apart.
+use Prim.Native.Nat.{ℕ, zero, suc, _+_, _-_, _/_, _%_, _≤_, _<_}
+use mathlib.Core.Path.{_≡_, refl, sym, ap, ap₂, _∙_}
+use mathlib.Core.Bool.{Bool, true, false, cond}
+use mathlib.Core.List.{List, [], _∷_}
+use native.Mathlib.Omega.{arith}
+use native.Mathlib.Nat.{add-zero, zero-add, add-sub-cancel-left}
+use borrow.Author.Tests.{eq-eqb, ne-eqb, eqb-true, eqb-false, lt-ltb, le-ltb}
+use lib.Seq.{getD-set-same, getD-set-other, take-all, take-nil}
+use lib.Dec.{eqb}
+use lib.ListN.{length, getD, set, take, drop, length-drop, drop-of-length-le}
+use Rattle.definition.specs.Text.{Text, same}
+use Rattle.definition.proofs.BoolLaws.{is-true}
+use Rattle.definition.proofs.MeaningLaws.{same-refl, same-eq}
+use Rattle.intern.specs.Entries.{start-of, text-at}
+use Rattle.intern.specs.Numbers.{name-of, seek, number-of}
+
+-- a text that starts past the end of the bytes, one that the end cuts off, and a whole one
+module _ (xs : Text) (w a : ℕ) (e : a ≡ start-of w) where
+  pub text-past : length xs ≤ a → [] ≡ text-at xs w
+  unfolding text-at
+  text-past h = sym (rw (← e, drop-of-length-le xs h) (take-nil (w / 64 % 64)))
+
+  pub text-cut : length xs - a < w / 64 % 64 → take (length xs - a) (drop a xs) ≡ text-at xs w
+  unfolding text-at
+  text-cut h =
+      take-all (length xs - a) (drop a xs) (omega (arith, length-drop a xs))
+      ∙ sym (take-all (w / 64 % 64) (drop a xs) (omega (arith, length-drop a xs)))
+      ∙ ap (λ (i : ℕ). take (w / 64 % 64) (drop i xs)) e
+
+  pub text-whole : take (a + w / 64 % 64 - a) (drop a xs) ≡ text-at xs w
+  unfolding text-at
+  text-whole = rw add-sub-cancel-left (ap (λ (i : ℕ). take (w / 64 % 64) (drop i xs)) e)
+
+module _ (facts query : Text) (relations tokens : List ℕ) (i : ℕ) where
+  pub of-relation : i < length relations → text-at facts (getD relations i 0) ≡ name-of facts query relations tokens i
+  unfolding name-of
+  of-relation h = rw (lt-ltb i (length relations) h)
+
+  pub of-token : length relations ≤ i → text-at query (getD tokens (i - length relations) 0) ≡ name-of facts query relations tokens i
+  unfolding name-of
+  of-token h = rw (le-ltb i (length relations) h)
+
+itself : (x : Text) → same x x ≡ true
+itself x = is-true (same x x) (same-refl x)
+
+equal : (x y : Text) → same x y ≡ true → x ≡ y
+equal x y h = same-eq x y (rw h tt)
+
+module _ (names : ℕ → Text) (x : Text) where
+  -- one more place, whose name is y
+  pub seek-miss : (i j : ℕ) (y : Text) (b : Bool) → j < i → y ≡ names j → b ≡ same x y → b ≡ false → seek names x (i - j) j ≡ seek names x (i - (j + 1)) (j + 1)
+  unfolding seek
+  seek-miss i j y b h n e f = let s : i - j ≡ suc (i - (j + 1)) = omega arith in rw (s, ← n, ← e, f) refl
+
+  pub seek-hit : (i j : ℕ) (y : Text) (b : Bool) → j < i → y ≡ names j → b ≡ same x y → b ≡ true → seek names x (i - j) j ≡ j
+  unfolding seek
+  seek-hit i j y b h n e f = let s : i - j ≡ suc (i - (j + 1)) = omega arith in rw (s, ← n, ← e, f) refl
+
+  pub seek-none : (i j : ℕ) → i ≤ j → seek names x (i - j) j ≡ j
+  unfolding seek
+  seek-none i j h = let s : i - j ≡ 0 = omega arith in rw s refl
+
+  -- what is found has the text, if the last place has
+  found : (f j : ℕ) → same x (names (j + f)) ≡ true → same x (names (seek names x f j)) ≡ true
+  unfolding seek
+  found zero j h = rw (← add-zero j) h
+  found (suc f) j h = go (same x (names j)) refl (λ _. found f (j + 1) (let s : j + suc f ≡ j + 1 + f = omega arith in rw s at h))
+    where
+      go : (b : Bool) → same x (names j) ≡ b → (Unit {0} → same x (names (seek names x f (j + 1))) ≡ true) → same x (names (cond b j (seek names x f (j + 1)))) ≡ true
+      go true e k = e
+      go false e k = k tt
+
+  -- and it does not matter at which such place the search would end
+  agree : (f g j : ℕ) → same x (names (j + f)) ≡ true → same x (names (j + g)) ≡ true → seek names x f j ≡ seek names x g j
+  unfolding seek
+  agree zero zero j h k = refl
+  agree zero (suc g) j h k = let e : same x (names j) ≡ true = rw (← add-zero j) h in rw e refl
+  agree (suc f) zero j h k = let e : same x (names j) ≡ true = rw (← add-zero j) k in rw e refl
+  agree (suc f) (suc g) j h k =
+      ap (λ (m : ℕ). cond (same x (names j)) j m)
+      (agree f g (j + 1) (let s : j + suc f ≡ j + 1 + f = omega arith in rw s at h) (let s : j + suc g ≡ j + 1 + g = omega arith in rw s at k))
+
+  within : (f j : ℕ) → seek names x f j ≤ j + f
+  unfolding seek
+  within zero j = omega arith
+  within (suc f) j = go (same x (names j)) (within f (j + 1))
+    where
+      go : (b : Bool) → seek names x f (j + 1) ≤ j + 1 + f → cond b j (seek names x f (j + 1)) ≤ j + suc f
+      go true h = omega arith
+      go false h = omega arith
+
+-- the search of a name's number, from the start
+pub number-start : (names : ℕ → Text) (i : ℕ) (x : Text) → x ≡ names i → number-of names i ≡ seek names x (i - 0) 0
+unfolding number-of
+number-start names i x e = let s : i - 0 ≡ i = omega arith in rw (s, e)
+
+-- two names have one number if and only if they have one text
+pub faithful : (names : ℕ → Text) (s t : ℕ) → same (names s) (names t) ≡ eqb (number-of names s) (number-of names t)
+unfolding number-of
+faithful names s t = go (same (names s) (names t)) refl
+  where
+    self : (i : ℕ) → same (names i) (names (0 + i)) ≡ true
+    self i = rw zero-add (itself (names i))
+
+    go : (b : Bool) → same (names s) (names t) ≡ b → b ≡ eqb (seek names (names s) s 0) (seek names (names t) t 0)
+    go true e =
+        let p : names s ≡ names t = equal (names s) (names t) e in
+        sym (eq-eqb _ _ (ap (λ (y : Text). seek names y s 0) p ∙ agree names (names t) s t 0 (rw (zero-add, p) (itself (names t))) (self t)))
+    go false e =
+        sym (ne-eqb _ _ (λ q.
+        let a : same (names s) (names (seek names (names s) s 0)) ≡ true = found names (names s) s 0 (self s) in
+        let b : same (names t) (names (seek names (names t) t 0)) ≡ true = found names (names t) t 0 (self t) in
+        let u : names s ≡ names (seek names (names s) s 0) = equal _ _ a in
+        let v : names t ≡ names (seek names (names t) t 0) = equal _ _ b in
+        let w : names s ≡ names t = u ∙ ap names q ∙ sym v in
+        let z : same (names s) (names t) ≡ true = rw w (itself (names t)) in
+        let y : _≡_ {A = ℕ} 0 1 = cc in omega arith))
+
+-- a number is no higher than the name's place
+pub number-le : (names : ℕ → Text) (i : ℕ) → number-of names i ≤ i
+unfolding number-of
+number-le names i = omega (arith, within names (names i) i 0)
+
+-- an array that is filled from the front has one element more
+pub filled : (f : ℕ → ℕ) (xs : List ℕ) (i v : ℕ) → i < length xs → v ≡ f i → ((k : ℕ) → k < i → getD xs k 0 ≡ f k) → (k : ℕ) → k < i + 1 → getD (set xs i v) k 0 ≡ f k
+filled f xs i v h e below k l = go (eqb k i) refl
+  where
+    lower : (k i : ℕ) → (k ≡ i → ⊥) → k < i + 1 → k < i
+    lower k i n l = omega arith
+
+    go : (b : Bool) → eqb k i ≡ b → getD (set xs i v) k 0 ≡ f k
+    go true q = let z : k ≡ i = eqb-true k i q in rw z (getD-set-same xs i v 0 h ∙ e)
+    go false q = getD-set-other xs i k v 0 (eqb-false k i q) ∙ below k (lower k i (eqb-false k i q) l)

@@ -1,0 +1,94 @@
+// Names as numbers: bytes are compared here, once; the passes over names compare numbers.
+ghost use mathlib.Core.Path.{_≡_};
+ghost use Prim.Native.Nat.{_+_, _≤_, _<_};
+ghost use lib.ListN.{length, getD};
+ghost use Rattle.intern.specs.Entries.{start-of, text-at};
+ghost use Rattle.intern.specs.Numbers.{name-of, number-of, Numbered};
+
+// Where the text of a word starts: that of a string after its opening quote.
+fn start(w: u64) -> usize
+    ensures { λ r. ⌜ r ≡ start-of w ⌝ }
+{
+    let at = (w / 4096) as usize;
+    if w % 64 == 48 {
+        return at + 1;
+    }
+    at
+}
+
+// The text of a word.
+pub fn text_at(text: &[u8], w: u64) -> &[u8]
+    ensures { λ r. ⌜ now r ≡ text-at (now (text .entry)) w ⌝ }
+{
+    let a = start(w);
+    let n = (w / 64 % 64) as usize;
+    if text.len() <= a {
+        return &text[..0];
+    }
+    if text.len() - a < n {
+        return &text[a..];
+    }
+    let e = a + n;
+    &text[a..e]
+}
+
+// The name at a place among the relations of the facts and the tokens of the query.
+fn name<'a>(
+    facts: &'a [u8],
+    query: &'a [u8],
+    relations: &[u64],
+    tokens: &[u64],
+    i: usize,
+) -> &'a [u8]
+    requires { ⌜ i < length (now relations) + length (now tokens) ⌝ }
+    ensures { λ r. ⌜ now r ≡ name-of (now (facts .entry)) (now (query .entry)) (now (relations .entry)) (now (tokens .entry)) i ⌝ }
+{
+    let k = relations.len();
+    if i < k {
+        return text_at(facts, relations[i]);
+    }
+    text_at(query, tokens[i - k])
+}
+
+// The number of the name at i.
+fn number<'a>(
+    facts: &'a [u8],
+    query: &'a [u8],
+    relations: &[u64],
+    tokens: &[u64],
+    i: usize,
+) -> usize
+    requires { ⌜ i < length (now relations) + length (now tokens) ⌝ }
+    ensures { λ r. ⌜ r ≡ number-of (name-of (now (facts .entry)) (now (query .entry)) (now (relations .entry)) (now (tokens .entry))) i ⌝ }
+{
+    let x = name(facts, query, relations, tokens, i);
+    let mut j: usize = 0;
+    while j < i {
+        let y = name(facts, query, relations, tokens, j);
+        if texts::same(x, y) {
+            return j;
+        }
+        j += 1;
+    }
+    j
+}
+
+// The numbers of the tokens' names.
+pub fn intern<'a>(
+    facts: &'a [u8],
+    query: &'a [u8],
+    relations: &[u64],
+    tokens: &[u64],
+    ids: &mut [u64],
+)
+    requires { ⌜ length (now tokens) ≤ length (now ids) ⌝ }
+    ensures { λ _. ⌜ Numbered (name-of (now (facts .entry)) (now (query .entry)) (now (relations .entry)) (now (tokens .entry))) (length (now (relations .entry))) (now (ids .exit)) (length (now (tokens .entry))) ⌝ }
+{
+    let k = relations.len();
+    let mut t: usize = 0;
+    while t < tokens.len() {
+        let n = number(facts, query, relations, tokens, k + t);
+        ids[t] = n as u64;
+        t += 1;
+    }
+}
