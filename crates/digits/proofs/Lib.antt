@@ -1,0 +1,3 @@
+-- Laws of lists of digits and their numbers.
+pub mod Listing
+pub mod Packing
