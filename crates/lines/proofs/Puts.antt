@@ -1,0 +1,154 @@
+-- Bytes put one after the other.
+use Prim.Native.Nat.{ℕ, zero, suc, _+_, _-_, _<_, _≤_, min}
+use mathlib.Core.Path.{_≡_, refl, sym, ap, ap₂, _∙_, subst}
+use mathlib.Core.Bool.{Bool, true, false, cond}
+use mathlib.Core.List.{List, [], _∷_, _++_, append-assoc}
+use mathlib.Core.Logic.{_⊎_, inl, inr, ⊎-elim}
+use native.Mathlib.Nat.{add-zero, min-eq-left, min-eq-right, min-le-left, min-le-right}
+use native.Mathlib.Omega.{arith}
+use borrow.Author.Tests.{leb-true, leb-false, le-leb, lt-leb}
+use lib.Dec.{leb}
+use lib.ListN.{length, set, take, drop, length-append, length-set, length-take, length-drop}
+use lib.Seq.{sets, length-sets, set-out, sets-eq, take-at, drop-at, drop-drop}
+use Rattle.tuples.proofs.Stores.{sets-append, sets-out}
+use Rattle.lines.specs.Put.{Put, Printed}
+
+le-or-lt : (a b : ℕ) → (a ≤ b) ⊎ (b < a)
+le-or-lt a b = go (leb a b) refl
+  where
+    go : (t : Bool) → leb a b ≡ t → (a ≤ b) ⊎ (b < a)
+    go true e = inl (leb-true a b e)
+    go false e = inr (leb-false a b e)
+
+module _ {w : Bool} {out : List ℕ} {at : ℕ} {x : List ℕ} {r : ℕ} {out₁ : List ℕ} (p : Put w out at x r out₁) where
+  pub put-length : length out₁ ≡ length out
+  put-length = ap length (p .bytes) ∙ go w
+    where
+      go : (b : Bool) → length (cond b (sets out at x) out) ≡ length out
+      go true = length-sets out at x
+      go false = refl
+
+  pub put-within : r ≤ length out₁ + 1
+  put-within = omega (arith, p .end, min-le-right (at + length x) (length out + 1), put-length)
+
+-- nothing
+pub put-none : {w : Bool} {out : List ℕ} {at : ℕ} → at ≤ length out + 1 → Put w out at [] at out
+put-none {w} {out} {at} h = record { end = sym (ap (λ (k : ℕ). min k (length out + 1)) (add-zero at) ∙ min-eq-left h); bytes = go w }
+  where
+    go : (b : Bool) → out ≡ cond b out out
+    go true = refl
+    go false = refl
+
+-- one byte: inside, and past the end
+pub put-in : (w : Bool) (out : List ℕ) (at b : ℕ) → at < length out → Put w out at (b ∷ []) (at + 1) (cond w (set out at b) out)
+put-in w out at b h = record { end = sym (min-eq-left (omega arith)); bytes = refl }
+
+pub put-past : (w : Bool) (out : List ℕ) (at b : ℕ) → length out ≤ at → Put w out at (b ∷ []) (length out + 1) out
+put-past w out at b h = record { end = sym (min-eq-right (omega arith)); bytes = go w }
+  where
+    go : (t : Bool) → out ≡ cond t (set out at b) out
+    go true = sym (set-out out at b h)
+    go false = refl
+
+-- clipped places add up
+clip-add : (a b c r s : ℕ) → r ≡ min a c → s ≡ min (r + b) c → s ≡ min (a + b) c
+clip-add a b c r s e f = ⊎-elim (λ h. f ∙ ap (λ (k : ℕ). min (k + b) c) (e ∙ min-eq-left h)) (λ h. f ∙ ap (λ (k : ℕ). min (k + b) c) (e ∙ min-eq-right (omega arith)) ∙ min-eq-right (omega arith) ∙ sym (min-eq-right (omega arith))) (le-or-lt a c)
+
+-- a run from a clipped place
+sets-clip : (out x y : List ℕ) (at r : ℕ) → r ≡ min (at + length x) (length out + 1) → sets (sets out at x) r y ≡ sets out at (x ++ y)
+sets-clip out x y at r e =
+    ⊎-elim
+    (λ h. ap (λ (k : ℕ). sets (sets out at x) k y) (e ∙ min-eq-left h) ∙ sets-append x y out at)
+    (λ h.
+    let big : r ≡ length out + 1 = e ∙ min-eq-right (omega arith) in
+    sets-out y (sets out at x) r (omega (arith, length-sets out at x))
+    ∙ sym (sets-out y (sets out at x) (at + length x) (omega (arith, length-sets out at x)))
+    ∙ sets-append x y out at)
+    (le-or-lt (at + length x) (length out + 1))
+
+-- x, and then y
+pub put-then : {w : Bool} {out : List ℕ} {at : ℕ} {x : List ℕ} {r : ℕ} {out₁ : List ℕ} {y : List ℕ} {r₂ : ℕ} {out₂ : List ℕ}
+    → Put w out at x r out₁ → Put w out₁ r y r₂ out₂ → Put w out at (x ++ y) r₂ out₂
+put-then {w} {out} {at} {x} {r} {out₁} {y} {r₂} {out₂} p q =
+    record {
+      end =
+          clip-add (at + length x) (length y) (length out + 1) r r₂ (p .end) (q .end ∙ ap (λ (k : ℕ). min (r + length y) (k + 1)) (put-length p))
+          ∙ ap (λ (k : ℕ). min k (length out + 1)) (omega (arith, length-append x y));
+      bytes = q .bytes ∙ ap (λ (l : List ℕ). cond w (sets l r y) l) (p .bytes) ∙ go w;
+    }
+  where
+    go : (b : Bool) → cond b (sets (cond b (sets out at x) out) r y) (cond b (sets out at x) out) ≡ cond b (sets out at (x ++ y)) out
+    go true = sets-clip out x y at r (p .end)
+    go false = refl
+
+-- ---- the two passes
+
+-- a count that does not fit, and one that does
+pub measured : {out : List ℕ} {at : ℕ} {x : List ℕ} {r : ℕ} {out₁ : List ℕ} → Put false out at x r out₁ → out₁ ≡ out
+measured p = p .bytes
+
+pub fits-not : {w : Bool} {out : List ℕ} {at : ℕ} {x : List ℕ} {r : ℕ} {out₁ : List ℕ} → Put w out at x r out₁ → length out < r → length out < at + length x
+fits-not {w} {out} {at} {x} {r} {out₁} p h = omega (arith, p .end, min-le-left (at + length x) (length out + 1))
+
+pub fits-yes : {w : Bool} {out : List ℕ} {at : ℕ} {x : List ℕ} {r : ℕ} {out₁ : List ℕ} → Put w out at x r out₁ → r ≤ length out → r ≡ at + length x
+fits-yes {w} {out} {at} {x} {r} {out₁} p h =
+    ⊎-elim (λ l. p .end ∙ min-eq-left l) (λ l. absurd (no (p .end ∙ min-eq-right (omega arith)))) (le-or-lt (at + length x) (length out + 1))
+  where
+    no : r ≡ length out + 1 → ⊥
+    no e = omega arith
+
+-- written whole
+pub written : {out : List ℕ} {at : ℕ} {x : List ℕ} {r : ℕ} {out₁ : List ℕ} → Put true out at x r out₁ → at + length x ≤ length out
+    → out₁ ≡ take at out ++ x ++ drop (at + length x) out
+written {out} {at} {x} {r} {out₁} p h = p .bytes ∙ sets-eq x out at h
+
+-- what a machine says of its buffer: the output so far, and the buffer as it was given past that
+pub printed : (out₀ o x : List ℕ) → length o + length x ≤ length out₀
+    → sets (o ++ drop (length o) out₀) (length o) x ≡ (o ++ x) ++ drop (length (o ++ x)) out₀
+printed out₀ o x h =
+    sets-eq x (o ++ drop (length o) out₀) (length o) (omega (arith, length-append o (drop (length o) out₀), length-drop (length o) out₀))
+    ∙ ap₂ (λ (a b : List ℕ). a ++ x ++ b) (take-at o (drop (length o) out₀) (length o) refl)
+    (sym (drop-drop (length x) (length o) (o ++ drop (length o) out₀)) ∙ ap (drop (length x)) (drop-at o (drop (length o) out₀) (length o) refl)
+    ∙ drop-drop (length x) (length o) out₀ ∙ ap (λ (k : ℕ). drop k out₀) (sym (length-append o x)))
+
+pub print-full : {out : List ℕ} {at : ℕ} {x : List ℕ} {r : ℕ} {out₁ : List ℕ} → Put false out at x r out₁ → length out₁ < r → Printed out at x r out₁
+print-full {out} {at} {x} {r} {out₁} p h =
+    record {
+      end = p .end;
+      bytes = p .bytes ∙ ap (λ (b : Bool). cond b (sets out at x) out) (sym (lt-leb (at + length x) (length out) (fits-not p (omega (arith, put-length p)))));
+    }
+
+pub print-fits : {out : List ℕ} {at : ℕ} {x : List ℕ} {r : ℕ} {out₁ : List ℕ} {r₂ : ℕ} {out₂ : List ℕ}
+    → Put false out at x r out₁ → r ≤ length out₁ → Put true out₁ at x r₂ out₂ → Printed out at x r₂ out₂
+print-fits {out} {at} {x} {r} {out₁} {r₂} {out₂} p h q =
+    record {
+      end = q .end ∙ ap (λ (k : ℕ). min (at + length x) (k + 1)) (put-length p);
+      bytes =
+          q .bytes ∙ ap (λ (l : List ℕ). sets l at x) (p .bytes)
+          ∙ ap (λ (b : Bool). cond b (sets out at x) out) (sym (le-leb (at + length x) (length out) (omega (arith, put-length p, fits-yes p (omega (arith, put-length p))))));
+    }
+
+-- a machine's buffer after a PRINT that fits
+pub machine-fits : (out₀ o : List ℕ) {out : List ℕ} {at : ℕ} {x : List ℕ} {r : ℕ} {out₁ : List ℕ} → out ≡ o ++ drop (length o) out₀ → at ≡ length o → length o ≤ length out₀
+    → Printed out at x r out₁ → r ≤ length out → (r ≡ length (o ++ x)) × (out₁ ≡ (o ++ x) ++ drop (length (o ++ x)) out₀)
+machine-fits out₀ o {out} {at} {x} {r} {out₁} b c f p h = (
+  ⊎-elim (λ l. p .end ∙ min-eq-left l ∙ omega (arith, length-append o x)) (λ l. absurd (no (p .end ∙ min-eq-right (omega arith)))) (le-or-lt (at + length x) (length out + 1)),
+  p .bytes ∙ ap (λ (t : Bool). cond t (sets out at x) out) (le-leb (at + length x) (length out) small)
+      ∙ ap₂ (λ (l : List ℕ) (k : ℕ). sets l k x) b c ∙ printed out₀ o x (omega (arith, long)),
+)
+  where
+    no : r ≡ length out + 1 → ⊥
+    no e = omega arith
+
+    long : length out ≡ length out₀
+    long = ap length b ∙ length-append o (drop (length o) out₀) ∙ omega (arith, length-drop (length o) out₀)
+
+    small : at + length x ≤ length out
+    small = ⊎-elim (λ l. omega (arith, p .end, min-eq-left l)) (λ l. absurd (no (p .end ∙ min-eq-right (omega arith)))) (le-or-lt (at + length x) (length out + 1))
+
+-- and after one that does not
+pub machine-full : {out : List ℕ} {at : ℕ} {x : List ℕ} {r : ℕ} {out₁ : List ℕ} → Printed out at x r out₁ → length out < r → (length out < at + length x) × (out₁ ≡ out)
+machine-full {out} {at} {x} {r} {out₁} p h = (over, p .bytes ∙ ap (λ (t : Bool). cond t (sets out at x) out) (lt-leb (at + length x) (length out) over))
+  where
+    over : length out < at + length x
+    over = omega (arith, p .end, min-le-left (at + length x) (length out + 1))

@@ -1,0 +1,58 @@
+use Prim.Native.Nat.{ℕ, _+_, _-_, _%_, _<_, _≤_}
+use mathlib.Core.Path.{_≡_, refl, sym, ap, ap₂, _∙_, subst}
+use mathlib.Core.Bool.{Bool, true, false, cond}
+use mathlib.Core.List.{List, [], _∷_, _++_}
+use native.Mathlib.Omega.{arith}
+use native.Mathlib.Numerals.{add-one}
+use lib.ListN.{length, getD, set, take, drop}
+use borrow.Author.Needs.{needs}
+use Rattle.definition.specs.Text.{gather}
+use Rattle.lines.specs.Put.{Put}
+use Rattle.lines.specs.Lines.{Texts, texts, element-at, shown-at, after, line-of}
+use Rattle.lines.proofs.Puts.{put-length, put-within, put-none, put-in, put-past, put-then}
+use Rattle.lines.proofs.LineLaws.{line-label, line-bare, line-empty, after-cons, after-none}
+use Rattle.lines.proofs.put.Statement.{statement}
+use Rattle.lines.proofs.put.Tie as tie
+use Rattle.lines.proofs.put.Reads as reads
+use Rattle.lines.proofs.put.Lts as lts
+
+add-result : tie.Need-add-result
+add-result c = search needs
+
+returns : tie.Need-returns
+returns c = put-past (c .before .args .write) (c .before .args .out .now) (c .before .args .at) (c .before .args .b) (c .if1 .taken)
+
+slice-write-out : tie.Need-slice-write-out
+slice-write-out c = search needs
+
+add-result-2 : tie.Need-add-result-2
+add-result-2 c = search needs
+
+same-length : tie.Need-same-length
+same-length c = search needs
+
+returns-2 : tie.Need-returns-2
+returns-2 c = let a = c .before .before .args in
+    subst (λ (w : Bool). Put w (a .out .now) (a .at) (a .b ∷ []) (a .at + 1) (set (a .out .now) (a .at) (a .b))) (sym (c .if2 .taken))
+    (put-in true (a .out .now) (a .at) (a .b) (c .before .if1 .left))
+
+add-result-3 : tie.Need-add-result-3
+add-result-3 c = search needs
+
+returns-3 : tie.Need-returns-3
+returns-3 c = let a = c .before .before .args in
+    subst (λ (w : Bool). Put w (a .out .now) (a .at) (a .b ∷ []) (a .at + 1) (a .out .now)) (sym (c .if2 .left))
+    (put-in false (a .out .now) (a .at) (a .b) (c .before .if1 .left))
+
+pub put-spec : {M : Type 1} → statement M
+put-spec =
+    tie.close
+    (tie.spec
+    add-result
+    returns
+    slice-write-out
+    add-result-2
+    same-length
+    returns-2
+    add-result-3
+    returns-3)

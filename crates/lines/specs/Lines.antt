@@ -1,0 +1,33 @@
+-- The line of a tuple.
+use Prim.Native.Nat.{ℕ}
+use mathlib.Core.List.{List, [], _∷_, _++_, map}
+use lib.Dec.{eqb}
+use lib.ListN.{getD}
+use Rattle.definition.specs.Text.{if_then_else_, Text}
+use Rattle.definition.specs.Tables.{Tuple}
+use Rattle.definition.specs.Print.{spaced}
+use Rattle.lines.specs.Packed.{tag-of, text-of}
+
+-- the two texts, and for each element the part of one of them that it is, with tag 1 if some fact quoted it
+pub record Texts : Type 0 where
+  pub facts : Text
+  pub query : Text
+  pub places : List ℕ
+
+abbrev pub texts : Text → Text → List ℕ → Texts
+texts f q p = record { facts = f; query = q; places = p }
+
+abbrev pub element-at : Texts → ℕ → Text
+element-at T a = text-of (T .facts) (T .query) (getD (T .places) a 0)
+
+-- "An element is printed in quotes if some fact quoted it"
+unfoldable pub shown-at : Texts → ℕ → Text
+shown-at T a = if eqb (tag-of (getD (T .places) a 0)) 1 then (34 ∷ element-at T a ++ (34 ∷ [])) else (element-at T a)
+
+-- an element after a space
+abbrev pub after : Texts → ℕ → Text
+after T a = 32 ∷ shown-at T a
+
+-- the line of a tuple, under the label, if any
+unfoldable pub line-of : Texts → List Text → Tuple → Text
+line-of T ls t = spaced (ls ++ map (shown-at T) t) ++ (10 ∷ [])

@@ -1,0 +1,165 @@
+// The line of a tuple put to a buffer, or only counted. A place past the buffer's end counts as the one just past it, so no count overflows.
+ghost use mathlib.Core.Path.{_≡_};
+ghost use mathlib.Core.List.{[], _∷_, _++_};
+ghost use Prim.Native.Nat.{_+_, _-_, _≤_};
+ghost use lib.ListN.{length, getD, take, drop};
+ghost use Rattle.definition.specs.Text.{gather};
+ghost use Rattle.lines.specs.Packed.{text-of};
+ghost use Rattle.lines.specs.Lines.{texts, element-at, shown-at, after, line-of};
+ghost use Rattle.lines.specs.Put.{Put};
+
+// Puts a byte.
+pub fn put(out: &mut [u8], at: usize, b: u8, write: bool) -> usize
+    ensures { λ r. ⌜ Put write (now (out .entry)) at (b ∷ []) r (now (out .exit)) ⌝ }
+{
+    let n = out.len();
+    if n <= at {
+        return n + 1;
+    }
+    if write {
+        out[at] = b;
+        return at + 1;
+    }
+    at + 1
+}
+
+// Puts a text.
+pub fn put_text(out: &mut [u8], at: usize, s: &[u8], write: bool) -> usize
+    requires { ⌜ at ≤ length (now out) + 1 ⌝ }
+    ensures { λ r. ⌜ Put write (now (out .entry)) at (now (s .entry)) r (now (out .exit)) ⌝ }
+{
+    let mut p = at;
+    let n = s.len();
+    for i in 0..n {
+        p = put(out, p, s[i], write);
+    }
+    p
+}
+
+// The n bytes of s from offset on, or as many as there are.
+pub fn part(s: &[u8], offset: usize, n: usize) -> &[u8]
+    ensures { λ r. ⌜ now r ≡ take n (drop offset (now (s .entry))) ⌝ }
+{
+    let len = s.len();
+    if len <= offset {
+        return &s[..0];
+    }
+    if len - offset < n {
+        return &s[offset..len];
+    }
+    &s[offset..offset + n]
+}
+
+// The text of the number w.
+fn text_of<'a>(facts: &'a [u8], query: &'a [u8], w: usize) -> &'a [u8]
+    ensures { λ r. ⌜ now r ≡ text-of (now (facts .entry)) (now (query .entry)) w ⌝ }
+{
+    let offset = w / 512;
+    let n = w / 8 % 64;
+    if w / 4 % 2 == 0 {
+        return part(facts, offset, n);
+    }
+    part(query, offset, n)
+}
+
+fn place_at(places: &[usize], a: usize) -> usize
+    ensures { λ r. ⌜ r ≡ getD (now (places .entry)) a 0 ⌝ }
+{
+    if a < places.len() { places[a] } else { 0 }
+}
+
+// The text of an element.
+pub fn element<'a>(facts: &'a [u8], query: &'a [u8], places: &[usize], a: u8) -> &'a [u8]
+    ensures { λ r. ⌜ now r ≡ element-at (texts (now (facts .entry)) (now (query .entry)) (now (places .entry))) a ⌝ }
+{
+    text_of(facts, query, place_at(places, a as usize))
+}
+
+// Puts an element, in quotes where some fact quoted it.
+fn put_shown<'a>(
+    facts: &'a [u8],
+    query: &'a [u8],
+    places: &[usize],
+    out: &mut [u8],
+    at: usize,
+    a: u8,
+    write: bool,
+) -> usize
+    requires { ⌜ at ≤ length (now out) + 1 ⌝ }
+    ensures { λ r. ⌜ Put write (now (out .entry)) at (shown-at (texts (now (facts .entry)) (now (query .entry)) (now (places .entry))) a) r (now (out .exit)) ⌝ }
+{
+    let text = element(facts, query, places, a);
+    if place_at(places, a as usize) % 4 == 1 {
+        let p = put(out, at, 34, write);
+        let q = put_text(out, p, text, write);
+        return put(out, q, 34, write);
+    }
+    put_text(out, at, text, write)
+}
+
+// Puts the elements of a tuple from the element `from` on, each after a space.
+fn put_after<'a>(
+    facts: &'a [u8],
+    query: &'a [u8],
+    places: &[usize],
+    out: &mut [u8],
+    at: usize,
+    t: [u8; 4],
+    n: usize,
+    from: usize,
+    write: bool,
+) -> usize
+    requires { ⌜ (n ≤ 4) × (from ≤ n) × (at ≤ length (now out) + 1) ⌝ }
+    ensures { λ r. ⌜ Put write (now (out .entry)) at (gather (after (texts (now (facts .entry)) (now (query .entry)) (now (places .entry)))) (take (n - from) (drop from t))) r (now (out .exit)) ⌝ }
+{
+    let mut p = at;
+    let mut k = from;
+    while k < n {
+        let q = put(out, p, 32, write);
+        p = put_shown(facts, query, places, out, q, t[k], write);
+        k += 1;
+    }
+    p
+}
+
+// Puts the line of a tuple under a label.
+pub fn put_labelled<'a>(
+    facts: &'a [u8],
+    query: &'a [u8],
+    places: &[usize],
+    label: &[u8],
+    out: &mut [u8],
+    at: usize,
+    t: [u8; 4],
+    n: usize,
+    write: bool,
+) -> usize
+    requires { ⌜ (n ≤ 4) × (at ≤ length (now out) + 1) ⌝ }
+    ensures { λ r. ⌜ Put write (now (out .entry)) at (line-of (texts (now (facts .entry)) (now (query .entry)) (now (places .entry))) (now (label .entry) ∷ []) (take n t)) r (now (out .exit)) ⌝ }
+{
+    let p = put_text(out, at, label, write);
+    let q = put_after(facts, query, places, out, p, t, n, 0, write);
+    put(out, q, 10, write)
+}
+
+// Puts the line of a tuple without a label.
+pub fn put_plain<'a>(
+    facts: &'a [u8],
+    query: &'a [u8],
+    places: &[usize],
+    out: &mut [u8],
+    at: usize,
+    t: [u8; 4],
+    n: usize,
+    write: bool,
+) -> usize
+    requires { ⌜ (n ≤ 4) × (at ≤ length (now out) + 1) ⌝ }
+    ensures { λ r. ⌜ Put write (now (out .entry)) at (line-of (texts (now (facts .entry)) (now (query .entry)) (now (places .entry))) [] (take n t)) r (now (out .exit)) ⌝ }
+{
+    if n == 0 {
+        return put(out, at, 10, write);
+    }
+    let p = put_shown(facts, query, places, out, at, t[0], write);
+    let q = put_after(facts, query, places, out, p, t, n, 1, write);
+    put(out, q, 10, write)
+}
