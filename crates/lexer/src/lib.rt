@@ -128,14 +128,14 @@ fn string_at(text: &[u8], at: usize) -> Segment
     ensures small { λ r. ⌜ Small r ⌝ }
 {
     let end = run_end(text, at + 1, Class::InString);
-    let n = end - (at + 1);
-    if 32 < n {
+    let size = end - (at + 1);
+    if 32 < size {
         return Segment::Neither;
     }
     if byte_at(text, end) != b'"' {
         return Segment::Neither;
     }
-    Segment::Lexeme(48, n, n + 2)
+    Segment::Lexeme(48, size, size + 2)
 }
 
 // The identifier, the reserved word or "_" alone at the place at.

@@ -16,11 +16,11 @@ add-run-end c = search needs
 run-end-requires : tie.Need-run-end-requires
 run-end-requires c κs = search needs
 
-add-n : tie.Need-add-n
-add-n c = search needs
+add-size : tie.Need-add-size
+add-size c = search needs
 
-sub-n : tie.Need-sub-n
-sub-n c = search needs
+sub-size : tie.Need-sub-size
+sub-size c = search needs
 
 returns : tie.Need-returns
 returns c =
@@ -54,8 +54,8 @@ string-at-spec =
     (tie.spec
     add-run-end
     run-end-requires
-    add-n
-    sub-n
+    add-size
+    sub-size
     returns
     byte-at-requires
     returns-2
