@@ -1,6 +1,6 @@
 -- What words hold, for whoever reads them: by a token's number, from a token on, and as the definition's tokens.
 use mathlib.Core.Path.{_≡_, refl, sym, ap, _∙_}
-use mathlib.Core.Bool.{Bool, true, false, _&&_, cond}
+use mathlib.Core.Bool.{Bool, true, false}
 use mathlib.Core.List.{List, [], _∷_}
 use Prim.Native.Nat.{ℕ, zero, suc, _+_, _-_, _≤_, _<_}
 use native.Mathlib.Nat.{zero-add, add-zero, add-suc, suc-add, not-suc-le-zero, le-of-suc-le-suc}
@@ -9,12 +9,12 @@ use native.Mathlib.Omega.{arith}
 use mathlib.Core.Logic.{_⊎_, ⊎-elim}
 use borrow.Author.Tests.{eqb-true, eqb-false, leb-true}
 use lib.Dec.{eqb, leb, ltb}
-use lib.ListN.{length, take, drop, getD, length-drop, drop-of-length-le}
+use lib.ListN.{length, drop, getD, length-drop, drop-of-length-le}
 use lib.Seq.{length-take-le}
 use Rattle.definition.specs.Text.{Text, between}
 use Rattle.definition.specs.Limits.{QUERY-BYTES, TOKENS}
 use Rattle.definition.specs.Answer.{Answer, ok, refused, _>>=_, _>>_, refuse-if}
-use Rattle.definition.specs.Token.{Sign, Terminal, name, string, sign, key, Token, terminals, token-at, place-at, lexed}
+use Rattle.definition.specs.Token.{Terminal, Token, terminals, token-at, place-at, lexed}
 use Rattle.definition.specs.Reader.{read-program}
 use Rattle.definition.specs.Syntax.{Program, says}
 use Rattle.definition.specs.Accept.{lexed-answer, read-answer, read-query}

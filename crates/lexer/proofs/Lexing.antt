@@ -1,15 +1,15 @@
 -- How a loop over the query meets the definition: one piece at a time.
-use mathlib.Core.Path.{_≡_, refl, sym, ap, _∙_}
-use mathlib.Core.List.{List, [], _∷_}
-use Prim.Native.Nat.{ℕ, zero, suc, _+_, _-_, _≤_, _<_}
+use mathlib.Core.Path.{_≡_, _∙_}
+use mathlib.Core.List.{[]}
+use Prim.Native.Nat.{ℕ, suc, _+_, _-_, _≤_, _<_}
 use native.Mathlib.Omega.{arith}
-use lib.ListN.{length, take, drop, getD, drop-of-length-le, length-drop}
+use lib.ListN.{length, drop, getD, drop-of-length-le, length-drop}
 use lib.Seq.{drop-cons, drop-drop}
 use Rattle.definition.specs.Text.{Text}
-use Rattle.definition.specs.Token.{Terminal, Token, Piece, gap, token, neither, piece, Lexed, tokens, stopped, add, on-piece, lex}
+use Rattle.definition.specs.Token.{Terminal, gap, token, neither, piece, tokens, stopped, add, on-piece, lex}
 use Rattle.definition.proofs.TextLaws.{lex-skip}
 use Rattle.lexer.specs.Segments.{first-piece}
-use Rattle.lexer.proofs.Sizes.{Sized, sized-gap, sized-token, sized-neither, piece-sized}
+use Rattle.lexer.proofs.Sizes.{Sized, sized-gap, sized-token, piece-sized}
 
 module _ (text : Text) (at : ℕ) where
   pub lex-end : (n : ℕ) → length text ≤ at → lex (drop at text) 0 at n ≡ tokens []

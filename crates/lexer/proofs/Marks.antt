@@ -6,12 +6,12 @@ use mathlib.Core.Logic.{_⊎_, inl, inr, ⊎-elim}
 use Prim.Native.Nat.{ℕ, _<_}
 use lib.Dec.{T, eqb, ltb, leb, lit<, ltb→lt, leb→le}
 use native.Mathlib.Omega.{arith}
-use lib.ListN.{getD, drop}
+use lib.ListN.{getD}
 use borrow.Author.Tests.{ne-eqb}
 use Rattle.definition.specs.Text.{Text, starts}
-use Rattle.definition.specs.Token.{Piece, token, neither, first-mark, marks}
+use Rattle.definition.specs.Token.{token, first-mark, marks}
 use Rattle.lexer.specs.declared.Segment.{Segment}
-use Rattle.lexer.specs.declared.Segment.the-variants.{Gap, Lexeme, Neither}
+use Rattle.lexer.specs.declared.Segment.the-variants.{Lexeme, Neither}
 use Rattle.lexer.specs.Tokens.{terminal-of, sign-of, quote-of}
 use Rattle.lexer.specs.Segments.{piece-of, Small, Marked}
 

@@ -1,12 +1,11 @@
 -- A token's word gives back what was put into it.
-use mathlib.Core.Path.{_≡_, refl, sym, ap, _∙_}
-use Prim.Native.Nat.{ℕ, suc, _+_, _*_, _/_, _%_, _<_}
+use mathlib.Core.Path.{_≡_, sym, ap, _∙_}
+use Prim.Native.Nat.{ℕ, _+_, _*_, _/_, _%_, _<_}
 use native.Mathlib.Nat.{add-mul-mod-self-left, add-mul-div-left, mod-eq-of-lt, div-eq-of-lt, div-div-eq-div-mul, zero-add}
 use lib.Dec.{lit<}
 use lib.ListN.{take, drop}
 use lib.Seq.{drop-drop}
 use Rattle.definition.specs.Text.{Text}
-use Rattle.definition.specs.Token.{Token}
 use Rattle.lexer.specs.Tokens.{terminal-of, quote-of, kind-of, size-of, at-of, start-of, token-of}
 
 module _ (k s a : ℕ) (hk : k < 64) (hs : s < 64) where

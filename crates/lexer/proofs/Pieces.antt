@@ -1,8 +1,8 @@
 -- What begins a text, by its first byte and, after a slash, its second.
-use mathlib.Core.Path.{_≡_, refl, sym, ap, _∙_}
-use mathlib.Core.Bool.{Bool, true, false, _&&_, _||_, not, cond}
-use mathlib.Core.List.{List, [], _∷_}
-use Prim.Native.Nat.{ℕ, zero, suc, _+_, _≤_, _<_}
+use mathlib.Core.Path.{_≡_, refl, sym, _∙_}
+use mathlib.Core.Bool.{true, false, _||_, not}
+use mathlib.Core.List.{[], _∷_}
+use Prim.Native.Nat.{ℕ, suc, _+_, _<_}
 use native.Mathlib.Nat.{add-zero}
 use native.Mathlib.Numerals.{add-one}
 use native.Mathlib.Decide.{decLt}
@@ -11,8 +11,8 @@ use lib.Dec.{eqb}
 use lib.ListN.{length, take, drop, getD, List·getD-eq-default}
 use lib.Seq.{drop-drop, drop-cons, getD-drop}
 use borrow.Author.Tests.{eq-eqb, ne-eqb}
-use Rattle.definition.specs.Text.{Text, ascii, span, starts, is-letter, is-part, is-blank}
-use Rattle.definition.specs.Token.{Piece, gap, token, neither, first-mark, marks, word, quoted, comment, piece}
+use Rattle.definition.specs.Text.{Text, span, starts, is-letter, is-part, is-blank}
+use Rattle.definition.specs.Token.{gap, neither, first-mark, marks, word, quoted, comment, piece}
 use Rattle.lexer.specs.Segments.{first-piece}
 use Rattle.lexer.proofs.Strings.{starts-one}
 use Rattle.lexer.proofs.Marks.{three-bytes}

@@ -1,19 +1,17 @@
 -- Rows 8, 9 and 13 of a query, from what the loop has found and the first illegal byte.
-use mathlib.Core.Path.{_≡_, refl, sym, ap, _∙_}
-use mathlib.Core.Bool.{Bool, true, false, cond}
-use mathlib.Core.List.{List, [], _∷_}
-use Prim.Native.Nat.{ℕ, zero, suc, _+_, _≤_, _<_, min}
+use mathlib.Core.Path.{_≡_, sym, ap, _∙_}
+use mathlib.Core.List.{List, []}
+use Prim.Native.Nat.{ℕ, _≤_, _<_, min}
 use native.Mathlib.Omega.{arith}
 use native.Mathlib.Nat.{zero-add}
-use lib.Dec.{ltb}
-use lib.ListN.{length, getD, take, length-take}
+use lib.ListN.{length, take}
 use lib.Seq.{length-take-le, getD-take}
 use borrow.Author.Tests.{lt-ltb, le-ltb}
 use Rattle.definition.specs.Text.{Text, span, is-legal}
 use Rattle.definition.specs.Limits.{QUERY-BYTES, TOKENS}
-use Rattle.definition.specs.Answer.{Answer, ok, refused}
-use Rattle.definition.specs.Token.{Token, token-at, tokens, stopped, lex, lexed}
-use Rattle.lexer.specs.Tokens.{token-of, tokens-of, start-of, size-of, Inside}
+use Rattle.definition.specs.Answer.{ok, refused}
+use Rattle.definition.specs.Token.{tokens, stopped, lex, lexed}
+use Rattle.lexer.specs.Tokens.{tokens-of, Inside}
 use Rattle.lexer.specs.Scans.{Before}
 use Rattle.lexer.specs.Answers.{query-tokens}
 use Rattle.lexer.proofs.Reading.{after-end, place-token, tokens-ext}

@@ -1,15 +1,15 @@
 -- A piece takes at least one byte and no more than there are.
-use mathlib.Core.Path.{_≡_, refl, sym, ap, subst, _∙_}
+use mathlib.Core.Path.{_≡_, refl, subst}
 use mathlib.Core.Bool.{Bool, true, false, _&&_, _||_, not, cond}
 use mathlib.Core.List.{List, [], _∷_}
-use Prim.Native.Nat.{ℕ, zero, suc, _+_, _-_, _≤_, _<_, min}
+use Prim.Native.Nat.{ℕ, suc, _+_, _-_, _≤_, _<_}
 use native.Mathlib.Omega.{arith}
 use lib.Dec.{T, eqb, ltb, leb, ltb→lt}
 use borrow.Author.Tests.{eqb-true}
 use lib.ListN.{length, take, drop, length-take, length-drop}
-use Rattle.definition.specs.Text.{Text, ascii, span, all-of, same, starts, is-letter, is-part, is-blank, reserved}
+use Rattle.definition.specs.Text.{Text, ascii, span, all-of, same, starts, is-letter, is-part, is-blank}
 use Rattle.definition.specs.Limits.{WORD-BYTES}
-use Rattle.definition.specs.Token.{Terminal, string, key, Mark, marks, Piece, gap, token, neither, first-mark, word-terminal, word, quoted, comment, piece, UNDERSCORE, FIRST-WORD}
+use Rattle.definition.specs.Token.{Terminal, Mark, marks, Piece, gap, token, neither, first-mark, word, quoted, comment, piece}
 use Rattle.texts.proofs.RunLaws.{span-within}
 use Rattle.definition.proofs.BoolLaws.{and-left, and-right}
 

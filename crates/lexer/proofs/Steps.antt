@@ -1,18 +1,18 @@
 -- One turn of the loop over a query: what a segment adds to the tokens read.
-use mathlib.Core.Path.{_≡_, refl, sym, ap, subst, _∙_}
+use mathlib.Core.Path.{_≡_, sym, ap, subst, _∙_}
 use mathlib.Core.Bool.{cond}
 use mathlib.Core.List.{List, []}
-use Prim.Native.Nat.{ℕ, suc, _+_, _*_, _≤_, _<_}
+use Prim.Native.Nat.{ℕ, _+_, _*_, _≤_, _<_}
 use native.Mathlib.Numerals.{add-one}
 use native.Mathlib.Omega.{arith}
 use lib.Dec.{eqb}
 use lib.ListN.{length, take, drop, set}
 use Rattle.definition.specs.Text.{Text}
 use Rattle.definition.specs.Limits.{TOKENS}
-use Rattle.definition.specs.Token.{Token, gap, token, neither, Lexed, tokens, stopped, add, lex}
+use Rattle.definition.specs.Token.{gap, token, tokens, stopped, lex}
 use Rattle.lexer.specs.declared.Segment.{Segment}
 use Rattle.lexer.specs.declared.Segment.the-variants.{Gap, Lexeme, Neither}
-use Rattle.lexer.specs.Tokens.{terminal-of, quote-of, token-of}
+use Rattle.lexer.specs.Tokens.{terminal-of, quote-of}
 use Rattle.lexer.specs.Segments.{piece-of, first-piece, Small}
 use Rattle.lexer.specs.Scans.{Before}
 use Rattle.lexer.proofs.Lexing.{gap-within, token-within, lex-end, lex-gap, lex-token, lex-neither}

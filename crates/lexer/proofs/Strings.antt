@@ -1,19 +1,19 @@
 -- A string, from where its run of bytes ends.
-use mathlib.Core.Path.{_≡_, refl, sym, ap, _∙_}
+use mathlib.Core.Path.{_≡_, refl, sym, _∙_}
 use mathlib.Core.Bool.{Bool, true, false, _&&_, not, cond}
-use mathlib.Core.List.{List, [], _∷_}
-use Prim.Native.Nat.{ℕ, zero, suc, _+_, _-_, _≤_, _<_}
+use mathlib.Core.List.{[], _∷_}
+use Prim.Native.Nat.{ℕ, _+_, _-_, _≤_, _<_}
 use native.Mathlib.Nat.{add-zero}
 use native.Mathlib.Omega.{arith}
 use lib.Dec.{eqb, leb, lit<}
-use lib.ListN.{length, take, drop, getD}
+use lib.ListN.{take, drop, getD}
 use lib.Seq.{drop-drop, getD-drop}
-use borrow.Author.Tests.{le-leb, lt-leb, eq-eqb, ne-eqb}
+use borrow.Author.Tests.{le-leb, lt-leb, ne-eqb}
 use Rattle.definition.specs.Text.{Text, span, starts}
 use Rattle.definition.specs.Limits.{WORD-BYTES}
 use Rattle.definition.specs.Token.{token, neither, string, quoted}
 use Rattle.lexer.specs.declared.Segment.the-variants.{Lexeme}
-use Rattle.lexer.specs.Tokens.{STRING, terminal-of, sign-of, quote-of}
+use Rattle.lexer.specs.Tokens.{STRING, terminal-of, quote-of}
 use Rattle.lexer.specs.Segments.{piece-of, Packs}
 
 -- a text of one byte begins a text whose first byte it is; 0 stands for none

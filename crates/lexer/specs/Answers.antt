@@ -1,12 +1,12 @@
 -- What the lexer answers: rows 8, 9 and 13 (tokens), or the tokens.
 use mathlib.Core.List.{List}
-use Prim.Native.Nat.{ℕ, _≤_}
+use Prim.Native.Nat.{ℕ}
 use lib.Dec.{ltb}
 use lib.ListN.{length, take}
 use Rattle.definition.specs.Text.{Text}
 use Rattle.definition.specs.Limits.{QUERY-BYTES, TOKENS}
 use Rattle.definition.specs.Token.{Token, lexed, place-at}
-use Rattle.definition.specs.Answer.{Answer, ok, refused, refusal, _>>=_, _>>_, refuse-if}
+use Rattle.definition.specs.Answer.{Answer, ok, refusal, _>>=_, _>>_, refuse-if}
 use Rattle.definition.specs.Accept.{lexed-answer}
 use Rattle.lexer.specs.declared.Lexed.{Lexed}
 use Rattle.lexer.specs.declared.Lexed.the-variants.{Tokens, Refused}

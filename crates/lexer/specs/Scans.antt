@@ -2,7 +2,7 @@
 use mathlib.Core.Path.{_≡_}
 use mathlib.Core.List.{List, [], _∷_}
 use Prim.Native.Nat.{ℕ, _+_, _≤_, _<_}
-use lib.ListN.{length, getD, drop}
+use lib.ListN.{length, getD}
 use Rattle.definition.specs.Text.{Text}
 use Rattle.definition.specs.Limits.{TOKENS}
 use Rattle.definition.specs.Token.{Token, token-at, Lexed, tokens, stopped, add, lex}

@@ -1,7 +1,7 @@
 -- What the lexer finds at a place of the query, and what that means.
 use Prim.Native.Nat.{ℕ, _+_, _≤_, _<_}
 use mathlib.Core.Path.{_≡_}
-use mathlib.Core.List.{List, [], _∷_}
+use mathlib.Core.List.{[], _∷_}
 use lib.ListN.{take, drop}
 use Rattle.definition.specs.Text.{Text}
 use Rattle.definition.specs.Token.{Piece, gap, token, neither, first-mark, marks, piece}

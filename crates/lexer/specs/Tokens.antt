@@ -6,7 +6,7 @@ use lib.ListN.{length, take, drop, getD}
 use Rattle.definition.specs.Text.{Text, if_then_else_, between}
 use Rattle.definition.specs.Token.{Sign, equal, unequal, less, at-most, greater, at-least, Terminal, name, string, sign, key, Token}
 
--- the kinds: 0 to 40 are the definition's keys, then come the six signs, an identifier and a string
+-- "identifiers; reserved words; strings in double quotes ..": the kinds 0 to 40 are the definition's keys, then come the six signs, an identifier and a string
 abbrev pub FIRST-SIGN : ℕ
 FIRST-SIGN = 41
 

@@ -19,6 +19,57 @@ ghost use Rattle.lexer.specs.Scans.{Scanned};
 ghost use Rattle.lexer.specs.Segments.{piece-of, first-piece, Marked, Small};
 ghost use Rattle.lexer.specs.Tokens.{Inside, kind-of, size-of, at-of, start-of};
 
+// The kinds of tokens. Keys are the definition's; a reserved word's is FIRST_WORD and its index in the table of 26.
+pub const LPAREN: u64 = 0;
+
+pub const RPAREN: u64 = 1;
+
+pub const LBRACE: u64 = 2;
+
+pub const RBRACE: u64 = 3;
+
+pub const LBRACKET: u64 = 4;
+
+pub const RBRACKET: u64 = 5;
+
+pub const COMMA: u64 = 6;
+
+pub const SEMICOLON: u64 = 7;
+
+pub const BECOMES: u64 = 8;
+
+pub const AND: u64 = 9;
+
+pub const OR: u64 = 10;
+
+pub const NOT: u64 = 11;
+
+pub const IMPLIES: u64 = 12;
+
+pub const IFF: u64 = 13;
+
+pub const UNDERSCORE: u64 = 14;
+
+pub const FIRST_WORD: u64 = 15;
+
+// = != < <= > >=
+pub const EQUAL: u64 = 41;
+
+pub const UNEQUAL: u64 = 42;
+
+pub const LESS: u64 = 43;
+
+pub const AT_MOST: u64 = 44;
+
+pub const GREATER: u64 = 45;
+
+pub const AT_LEAST: u64 = 46;
+
+// An identifier, a string.
+pub const NAME: u64 = 47;
+
+pub const STRING: u64 = 48;
+
 // What begins at a place of the text: bytes that separate; a token's kind, the length of its text and its own length; or neither.
 enum Segment {
     Gap(usize),
@@ -61,7 +112,7 @@ fn both_ways(y: u8, z: u8, other: Segment) -> Segment
 {
     if y == b'-' {
         if z == b'>' {
-            return Segment::Lexeme(13, 0, 3);
+            return Segment::Lexeme(IFF, 0, 3);
         }
     }
     other
@@ -72,22 +123,22 @@ fn mark_of(x: u8, y: u8, z: u8) -> Segment
     ensures { λ r. ⌜ Marked x y z r ⌝ }
 {
     match x {
-        b'(' => Segment::Lexeme(0, 0, 1),
-        b')' => Segment::Lexeme(1, 0, 1),
-        b'{' => Segment::Lexeme(2, 0, 1),
-        b'}' => Segment::Lexeme(3, 0, 1),
-        b'[' => Segment::Lexeme(4, 0, 1),
-        b']' => Segment::Lexeme(5, 0, 1),
-        b',' => Segment::Lexeme(6, 0, 1),
-        b';' => Segment::Lexeme(7, 0, 1),
-        b':' => longer(y, b'=', 8, Segment::Neither),
-        b'&' => Segment::Lexeme(9, 0, 1),
-        b'|' => Segment::Lexeme(10, 0, 1),
-        b'!' => longer(y, b'=', 42, Segment::Lexeme(11, 0, 1)),
-        b'-' => longer(y, b'>', 12, Segment::Neither),
-        b'=' => Segment::Lexeme(41, 0, 1),
-        b'<' => both_ways(y, z, longer(y, b'=', 44, Segment::Lexeme(43, 0, 1))),
-        b'>' => longer(y, b'=', 46, Segment::Lexeme(45, 0, 1)),
+        b'(' => Segment::Lexeme(LPAREN, 0, 1),
+        b')' => Segment::Lexeme(RPAREN, 0, 1),
+        b'{' => Segment::Lexeme(LBRACE, 0, 1),
+        b'}' => Segment::Lexeme(RBRACE, 0, 1),
+        b'[' => Segment::Lexeme(LBRACKET, 0, 1),
+        b']' => Segment::Lexeme(RBRACKET, 0, 1),
+        b',' => Segment::Lexeme(COMMA, 0, 1),
+        b';' => Segment::Lexeme(SEMICOLON, 0, 1),
+        b':' => longer(y, b'=', BECOMES, Segment::Neither),
+        b'&' => Segment::Lexeme(AND, 0, 1),
+        b'|' => Segment::Lexeme(OR, 0, 1),
+        b'!' => longer(y, b'=', UNEQUAL, Segment::Lexeme(NOT, 0, 1)),
+        b'-' => longer(y, b'>', IMPLIES, Segment::Neither),
+        b'=' => Segment::Lexeme(EQUAL, 0, 1),
+        b'<' => both_ways(y, z, longer(y, b'=', AT_MOST, Segment::Lexeme(LESS, 0, 1))),
+        b'>' => longer(y, b'=', AT_LEAST, Segment::Lexeme(GREATER, 0, 1)),
         _ => Segment::Neither,
     }
 }
@@ -135,7 +186,7 @@ fn string_at(text: &[u8], at: usize) -> Segment
     if byte_at(text, end) != b'"' {
         return Segment::Neither;
     }
-    Segment::Lexeme(48, size, size + 2)
+    Segment::Lexeme(STRING, size, size + 2)
 }
 
 // The identifier, the reserved word or "_" alone at the place at.
@@ -150,11 +201,11 @@ fn word_at(text: &[u8], at: usize) -> Segment
         return Segment::Neither;
     }
     if same(&text[at..end], b"_") {
-        return Segment::Lexeme(14, 0, 1);
+        return Segment::Lexeme(UNDERSCORE, 0, 1);
     }
     match reserved_word(&text[at..end]) {
-        Word::Reserved(k) => Segment::Lexeme(15 + k as u64, n, n),
-        Word::Identifier => Segment::Lexeme(47, n, n),
+        Word::Reserved(k) => Segment::Lexeme(FIRST_WORD + k as u64, n, n),
+        Word::Identifier => Segment::Lexeme(NAME, n, n),
     }
 }
 
@@ -209,31 +260,31 @@ fn segment_at(text: &[u8], at: usize) -> Segment
     mark_of(x, byte_at(text, at + 1), byte_at(text, at + 2))
 }
 
-// A word's parts: the kind of its token,
+// The kind of a word's token.
 pub fn kind(word: u64) -> u64
     ensures { λ r. ⌜ r ≡ kind-of word ⌝ }
 {
     word % 64
 }
 
-// the place of its first byte,
+// The place of its first byte.
 pub fn place(word: u64) -> usize
     ensures { λ r. ⌜ r ≡ at-of word ⌝ }
 {
     (word / 4096) as usize
 }
 
-// where its text begins, which is past a string's opening quote,
+// Where its text begins: a string's past the opening quote.
 pub fn text_start(word: u64) -> usize
     ensures { λ r. ⌜ r ≡ start-of word ⌝ }
 {
-    if kind(word) == 48 {
+    if kind(word) == STRING {
         return place(word) + 1;
     }
     place(word)
 }
 
-// and how long its text is.
+// How long its text is; a mark and "_" have none.
 pub fn text_length(word: u64) -> usize
     ensures { λ r. ⌜ r ≡ size-of word ⌝ }
 {
@@ -267,7 +318,7 @@ fn overflow(count: usize, at: usize, known: usize) -> usize
     known
 }
 
-// Every token of the query: its number and place, and the words of the first 2,048.
+// The tokens of a query of at most 16,384 bytes: how many, the words of the first 2,048, and the place of the next.
 fn scan_query(query: &[u8], words: &mut [u64]) -> Scan
     requires { ⌜ (length (now query) ≤ 16384) × (2048 ≤ length (now words)) ⌝ }
     ensures { λ r. ⌜ Scanned (now (query .entry)) (now (words .exit)) r ⌝ }
@@ -301,7 +352,8 @@ fn smaller(a: usize, b: usize) -> usize
     if a < b { a } else { b }
 }
 
-// The tokens of a query, or row 8, 9 or 13 with its place. Words past the answer's count may be anything.
+// "At most 16,384 bytes and 2,048 tokens": a word for each token, or row 8, 9 or 13 with its place. Words past the answer's count, and all of
+// them on a refusal, may be anything.
 pub fn lex(query: &[u8], words: &mut [u64]) -> Lexed
     requires { ⌜ 2048 ≤ length (now words) ⌝ }
     ensures value { λ r. ⌜ answer (now (query .entry)) (now (words .exit)) r ≡ query-tokens (now (query .entry)) ⌝ }

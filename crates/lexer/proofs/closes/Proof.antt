@@ -1,10 +1,8 @@
 use Rattle.lexer.proofs.closes.Statement.{statement}
 use Rattle.lexer.proofs.closes.Tie as tie
-use mathlib.Core.Path.{_≡_, sym, refl}
+use mathlib.Core.Path.{sym}
 use borrow.Author.Tests.{eq-eqb, ne-eqb}
 use Rattle.definition.specs.Text.{starts}
-use Rattle.lexer.proofs.closes.Reads as reads
-use Rattle.lexer.proofs.closes.Lts as lts
 
 returns : tie.Need-returns
 unfolding starts

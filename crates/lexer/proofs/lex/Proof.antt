@@ -1,19 +1,13 @@
 use Rattle.lexer.proofs.lex.Statement.{statement}
 use Rattle.lexer.proofs.lex.Tie as tie
 use borrow.Author.Needs.{needs}
-use mathlib.Core.Path.{_≡_, refl, sym, ap, subst, _∙_}
+use mathlib.Core.Path.{subst, _∙_}
 use native.Mathlib.Nat.{zero-add, not-suc-le-zero}
 use native.Mathlib.Omega.{arith}
 use denote.Ref.{now}
-use lib.ListN.{length}
 use Rattle.definition.specs.Text.{span, is-legal}
 use Rattle.lexer.specs.Scans.{Scanned}
 use Rattle.lexer.proofs.Queries.{too-long, no-token, bad-byte, too-many, all-read, all-inside}
-use Rattle.lexer.proofs.lex.Reads as reads
-use Rattle.lexer.proofs.lex.Lts as lts
-use Rattle.lexer.proofs.scan_query.Reads as scan-query-reads
-use Rattle.lexer.proofs.smaller.Reads as smaller-reads
-use Rattle.texts.proofs.run_end.Reads as run-end-reads
 
 returns : tie.Need-returns
 returns c = (too-long (now (c .before .before .before .args .query)) (c .if1 .taken), (omega arith, λ i l. absurd (not-suc-le-zero l)))

@@ -6,10 +6,6 @@ use Rattle.definition.specs.Text.{starts}
 use Rattle.definition.specs.Token.{first-mark, marks}
 use Rattle.lexer.specs.Tokens.{terminal-of, sign-of, quote-of}
 use Rattle.lexer.proofs.Marks.{is-mark, small, no-mark, colon, bang, dash, less, more}
-use Rattle.lexer.proofs.mark_of.Reads as reads
-use Rattle.lexer.proofs.mark_of.Lts as lts
-use Rattle.lexer.proofs.both_ways.Reads as both-ways-reads
-use Rattle.lexer.proofs.longer.Reads as longer-reads
 
 longer-requires : tie.Need-longer-requires
 longer-requires c κs = search needs

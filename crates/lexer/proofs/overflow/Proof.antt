@@ -1,14 +1,10 @@
 use Rattle.lexer.proofs.overflow.Statement.{statement}
 use Rattle.lexer.proofs.overflow.Tie as tie
 use borrow.Author.Tests.{eq-eqb, ne-eqb}
-use Rattle.lexer.proofs.overflow.Reads as reads
-use Rattle.lexer.proofs.overflow.Lts as lts
 
--- src/lib.rt:122:9
 returns : tie.Need-returns
 returns c = simp (eq-eqb _ _ (c .if1 .taken))
 
--- src/lib.rt:118:1
 returns-2 : tie.Need-returns-2
 returns-2 c = simp (ne-eqb _ _ (c .if1 .left))
 

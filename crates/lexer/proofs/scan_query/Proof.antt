@@ -1,23 +1,16 @@
 use Rattle.lexer.proofs.scan_query.Statement.{statement}
 use Rattle.lexer.proofs.scan_query.Tie as tie
 use borrow.Author.Needs.{needs}
-use mathlib.Core.Path.{_≡_, refl, sym, ap, subst, _∙_}
-use Prim.Native.Nat.{ℕ, _+_, _-_, _≤_, _<_}
+use mathlib.Core.Path.{_≡_, refl, subst}
+use Prim.Native.Nat.{_-_, _≤_}
 use native.Mathlib.Omega.{arith}
 use denote.Ref.{now}
 use lib.ListN.{length, drop, length-set}
 use Rattle.definition.specs.Token.{lex}
 use Rattle.lexer.specs.Scans.{Before}
 use Rattle.lexer.proofs.Steps.{past-gap, past-token, step-gap, step-token, step-stop, step-end}
-use Rattle.lexer.specs.declared.Segment.{Segment}
 use Rattle.lexer.specs.Segments.{Small}
 use Rattle.lexer.proofs.Reading.{before-none}
-use Rattle.lexer.proofs.scan_query.Reads as reads
-use Rattle.lexer.proofs.scan_query.Lts as lts
-use Rattle.lexer.proofs.overflow.Reads as overflow-reads
-use Rattle.lexer.proofs.packed.Reads as packed-reads
-use Rattle.lexer.proofs.put.Reads as put-reads
-use Rattle.lexer.proofs.segment_at.Reads as segment-at-reads
 
 abbrev Inv-loop : tie.InvT-loop
 Inv-loop query words₀ at₀ count₀ over₀ words at count over =

@@ -1,20 +1,10 @@
 use borrow.Author.Needs.{needs}
 use Rattle.lexer.proofs.segment_at.Statement.{statement}
 use Rattle.lexer.proofs.segment_at.Tie as tie
-use mathlib.Core.Path.{_≡_, sym, _∙_}
+use mathlib.Core.Path.{sym, _∙_}
 use denote.Ref.{now}
-use lib.Dec.{lit<}
 use lib.ListN.{drop}
 use Rattle.lexer.proofs.Pieces.{separator, letter, quote, mark}
-use Rattle.lexer.proofs.segment_at.Reads as reads
-use Rattle.lexer.proofs.segment_at.Lts as lts
-use Rattle.lexer.proofs.byte_at.Reads as byte-at-reads
-use Rattle.texts.proofs.is_letter.Reads as is-letter-reads
-use Rattle.lexer.proofs.mark_of.Reads as mark-of-reads
-use Rattle.lexer.proofs.separates.Reads as separates-reads
-use Rattle.lexer.proofs.slash_at.Reads as slash-at-reads
-use Rattle.lexer.proofs.string_at.Reads as string-at-reads
-use Rattle.lexer.proofs.word_at.Reads as word-at-reads
 
 shared-slice-read-x : tie.Need-shared-slice-read-x
 shared-slice-read-x c = search needs

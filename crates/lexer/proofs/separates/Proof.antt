@@ -2,8 +2,6 @@ use Rattle.lexer.proofs.separates.Statement.{statement}
 use Rattle.lexer.proofs.separates.Tie as tie
 use borrow.Author.Tests.{eq-eqb, ne-eqb}
 use Rattle.definition.specs.Text.{is-blank}
-use Rattle.lexer.proofs.separates.Reads as reads
-use Rattle.lexer.proofs.separates.Lts as lts
 
 returns : tie.Need-returns
 unfolding is-blank

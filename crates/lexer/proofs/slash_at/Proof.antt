@@ -6,15 +6,10 @@ use mathlib.Core.Bool.{not}
 use Prim.Native.Nat.{_+_, _-_}
 use native.Mathlib.Omega.{arith}
 use denote.Ref.{now}
-use lib.Dec.{lit<, eqb}
+use lib.Dec.{eqb}
 use lib.ListN.{drop}
 use Rattle.definition.specs.Text.{span}
 use Rattle.lexer.proofs.Pieces.{line-comment, open-comment, no-comment, byte-within}
-use Rattle.lexer.proofs.slash_at.Reads as reads
-use Rattle.lexer.proofs.slash_at.Lts as lts
-use Rattle.lexer.proofs.byte_at.Reads as byte-at-reads
-use Rattle.lexer.proofs.comment_at.Reads as comment-at-reads
-use Rattle.texts.proofs.run_end.Reads as run-end-reads
 
 add-byte-at : tie.Need-add-byte-at
 add-byte-at c = search needs

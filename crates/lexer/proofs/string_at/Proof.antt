@@ -1,14 +1,10 @@
 use borrow.Author.Needs.{needs}
 use Rattle.lexer.proofs.string_at.Statement.{statement}
 use Rattle.lexer.proofs.string_at.Tie as tie
-use mathlib.Core.Path.{_≡_, sym, _∙_}
+use mathlib.Core.Path.{sym, _∙_}
 use Prim.Native.Nat.{_+_, _-_}
 use denote.Ref.{now}
 use Rattle.lexer.proofs.Strings.{string-closed, string-open, string-long, string-packs}
-use Rattle.lexer.proofs.string_at.Reads as reads
-use Rattle.lexer.proofs.string_at.Lts as lts
-use Rattle.lexer.proofs.byte_at.Reads as byte-at-reads
-use Rattle.texts.proofs.run_end.Reads as run-end-reads
 
 add-run-end : tie.Need-add-run-end
 add-run-end c = search needs

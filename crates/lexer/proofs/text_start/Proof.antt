@@ -1,15 +1,11 @@
 use borrow.Author.Needs.{needs}
 use Rattle.lexer.proofs.text_start.Statement.{statement}
 use Rattle.lexer.proofs.text_start.Tie as tie
-use mathlib.Core.Path.{_≡_, sym, _∙_}
+use mathlib.Core.Path.{sym, _∙_}
 use Prim.Native.Nat.{_/_, _%_}
 use native.Mathlib.Nat.{add-zero}
 use borrow.Author.Tests.{eq-eqb, ne-eqb}
 use Rattle.lexer.specs.Tokens.{quote-of}
-use Rattle.lexer.proofs.text_start.Reads as reads
-use Rattle.lexer.proofs.text_start.Lts as lts
-use Rattle.lexer.proofs.kind.Reads as kind-reads
-use Rattle.lexer.proofs.place.Reads as place-reads
 
 kind-requires : tie.Need-kind-requires
 kind-requires c κs = search needs

@@ -1,19 +1,14 @@
 use borrow.Author.Needs.{needs}
 use Rattle.lexer.proofs.word_at.Statement.{statement}
 use Rattle.lexer.proofs.word_at.Tie as tie
-use mathlib.Core.Path.{_≡_, sym, subst, _∙_}
-use Prim.Native.Nat.{ℕ, _+_, _-_, _<_}
+use mathlib.Core.Path.{sym, subst, _∙_}
+use Prim.Native.Nat.{_-_, _<_}
 use native.Mathlib.Omega.{arith}
 use denote.Ref.{now}
 use lib.ListN.{drop}
 use Rattle.texts.specs.declared.Word.{Word}
 use Rattle.texts.specs.Words.{index-of}
 use Rattle.lexer.proofs.Identifiers.{word-long, word-any, word-reserved, word-name, any-packs, reserved-packs, name-packs}
-use Rattle.lexer.proofs.word_at.Reads as reads
-use Rattle.lexer.proofs.word_at.Lts as lts
-use Rattle.texts.proofs.reserved_word.Reads as reserved-word-reads
-use Rattle.texts.proofs.run_end.Reads as run-end-reads
-use Rattle.texts.proofs.same.Reads as same-reads
 
 run-end-requires : tie.Need-run-end-requires
 run-end-requires c κs = search needs

@@ -7,11 +7,6 @@ use native.Mathlib.Omega.{arith}
 use lib.Seq.{length-take-le}
 use Rattle.lexer.specs.declared.Lexed.{Lexed}
 use Rattle.lexer.specs.Answers.{count-of}
-use Rattle.lexer_test.proofs.show.Reads as reads
-use Rattle.lexer_test.proofs.show.Lts as lts
-use Rattle.lexer.proofs.lex.Reads as lex-reads
-use Rattle.lexer_test.proofs.show_tokens.Reads as show-tokens-reads
-use Rattle.lexer_test.proofs.show_why.Reads as show-why-reads
 
 slice-aggregate-lex : tie.Need-slice-aggregate-lex
 slice-aggregate-lex c = search needs

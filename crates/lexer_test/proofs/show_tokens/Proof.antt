@@ -3,11 +3,6 @@ use Rattle.lexer_test.proofs.show_tokens.Tie as tie
 use borrow.Author.Needs.{needs}
 use Prim.Native.Nat.{_≤_, _-_}
 use lib.ListN.{length}
-use Rattle.lexer_test.proofs.show_tokens.Reads as reads
-use Rattle.lexer_test.proofs.show_tokens.Lts as lts
-use Rattle.lexer_test.proofs.say.Reads as say-reads
-use Rattle.lexer_test.proofs.say_number.Reads as say-number-reads
-use Rattle.lexer_test.proofs.show_token.Reads as show-token-reads
 
 abbrev Inv-loop : tie.InvT-loop
 Inv-loop words i₀ t3 i = i ≤ length words
