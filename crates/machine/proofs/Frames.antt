@@ -63,6 +63,11 @@ pub shown-left : (w : Accepted) (ss cs vs : List ℕ) (f : Frame) (fs : List Fra
 unfolding left left-at
 shown-left w ss cs vs f fs d e h = rw (e, h .0, h .1) refl
 
+pub shown-after : (w : Accepted) (ss cs vs : List ℕ) (f : Frame) (fs : List Frame) (d a : ℕ) → d ≡ length fs → Shown ss cs vs (f ∷ fs)
+    → members (getD ss d 0) (suc a) (elements w - suc a) ≡ left w (taken f a)
+unfolding left
+shown-after w ss cs vs f fs d a e h = rw (e, h .0) refl
+
 -- the names stand for what the array of variables has
 pub shown-environment : (ss cs vs : List ℕ) (fs : List Frame) → Shown ss cs vs fs → scope-environment (scope-of fs) vs ≡ environment fs
 unfolding scope-environment environment

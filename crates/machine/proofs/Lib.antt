@@ -2,3 +2,7 @@
 pub mod Members
 pub mod Frames
 pub mod Steps
+pub mod Runs
+pub mod Decoding
+pub mod Stops
+pub mod Quiets

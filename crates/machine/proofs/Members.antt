@@ -1,6 +1,7 @@
 -- The members of a set from a number on: none, the least, or not that number.
 use Prim.Native.Nat.{ℕ, zero, suc, _+_, _-_, _≤_, _<_}
 use native.Mathlib.Omega.{arith}
+use native.Mathlib.Numerals.{add-one}
 use mathlib.Core.Path.{_≡_, refl, sym, ap, _∙_}
 use mathlib.Core.Bool.{Bool, true, false}
 use mathlib.Core.List.{List, [], _∷_}
@@ -60,3 +61,14 @@ module _ (u : ℕ) (ss cs : List ℕ) (d : ℕ) (h : left-at u ss cs d ≡ [] �
 
   pub next-rest : left-at u ss cs d ≡ next-at u ss cs d ∷ members (getD ss d 0) (suc (next-at u ss cs d)) (u - suc (next-at u ss cs d))
   next-rest = rw is-found (found .rest)
+
+-- a search that has come to a: it stops there, goes on, or finds none
+module _ (s b u a : ℕ) (h : members s b (u - b) ≡ members s a (u - a)) where
+  pub search-hit : a < u → bit s a ≡ true → a ≡ getD (members s b (u - b)) 0 u
+  search-hit l e = rw (h, members-hit s a u l e) refl
+
+  pub search-on : a < u → bit s a ≡ false → members s b (u - b) ≡ members s (a + 1) (u - (a + 1))
+  search-on l e = h ∙ rw add-one (members-miss s a u l e)
+
+  pub search-none : u ≤ a → u ≡ getD (members s b (u - b)) 0 u
+  search-none l = rw (h, members-none s a u l) refl

@@ -111,6 +111,7 @@ module _ (w : Accepted) (A : Actions) (code : List ℕ) where
     pub x : Expression
     pub depth : d ≡ length fs
     pub small : d < 32
+    pub next : instr code m ≡ NEXT d (suc pc)
     pub does : Ranges w A (scope-of fs) pc x
     pub stepped : (s e : ℕ) → answers w ts (environment fs) x ≡ map single (members s 0 (elements w))
         → Stepped (record { name = v .text; set = s; cursor = 0; element = e } ∷ fs) m k ts o n ts o
@@ -124,6 +125,7 @@ module _ (w : Accepted) (A : Actions) (code : List ℕ) where
         x = x;
         depth = e;
         small = l;
+        next = j;
         does = t;
         stepped = λ s z h. record {
           rest = each (map single (left w (record { name = v .text; set = s; cursor = 0; element = z }))) (environment fs) v a k;

@@ -1,5 +1,5 @@
 -- One turn of the step loop, as a function of what the machine holds.
-use Prim.Native.Nat.{ℕ, suc, _+_, _-_}
+use Prim.Native.Nat.{ℕ, suc, _+_, _-_, _<_}
 use mathlib.Core.Path.{_≡_}
 use mathlib.Core.Bool.{Bool, true, false, cond}
 use mathlib.Core.List.{List, []}
@@ -54,6 +54,11 @@ module _ (u : ℕ) (code ss cs : List ℕ) where
   rests (RANGE d n) = Unit {0}
   rests (NEXT d n) = left-at u ss cs d ≡ [] → ⊥
   rests (JUMP n) = ⊥
+
+  -- from a place: it goes on to a later one, or no move goes on and it stays
+  pub record Quiet (at n : ℕ) : Type 0 where
+    pub stays : n ≡ at → rests (instr code at)
+    pub goes : (n ≡ at → ⊥) → (at < n) × Move at n
 
   pub record Settled (at n : ℕ) : Type 0 where
     pub moves : Moves at n
