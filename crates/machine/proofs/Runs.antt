@@ -22,9 +22,9 @@ use Rattle.definition.specs.declared.Ending.the-variants.{Done, Spent, Full}
 use Rattle.definition.specs.declared.Stopped.{Stopped}
 use Rattle.definition.proofs.Claims.{Stop, at-end, at-budget, at-print}
 use Rattle.machine.specs.Instructions.{Instr, END, PASS, ASSIGN, PRINT, TEST, AGAIN, RANGE, NEXT, JUMP, instr}
-use Rattle.machine.specs.Actions.{Actions, Handed, Tests, Ranges, Assigns, Prints, members, single, scope-environment}
+use Rattle.machine.specs.Actions.{Actions, Handed, Leaves, Tests, Ranges, Assigns, Prints, members, single, scope-environment}
 use Rattle.machine.specs.Placed.{Placed, Holds-program}
-use Rattle.machine.specs.Turns.{Held, held, left-at, next-at, Move, passes, jumps, leaves, Moves, here, on, rests, Settled, bytes, overflows, goes, turn-by}
+use Rattle.machine.specs.Turns.{Held, held, left-at, next-at, Move, passes, jumps, leaves, Moves, here, on, rests, Settled, bytes, overflows, goes, goes-after, printed as printed-by, turn-by}
 use Rattle.machine.specs.Standing.{Frame, scope-of, environment, around, Within, Shown, left, AtI, At, at-end as AtI·end, Run}
 use Rattle.machine.proofs.Members.{next-inside, next-rest}
 use Rattle.machine.proofs.Frames.{shown-open, taken, shown-take, shown-left, shown-after, shown-environment, shown-inside, within-around}
@@ -150,6 +150,9 @@ module _ (w : Accepted) (A : Actions) (code : List ℕ) (store₀ : List ℕ) (b
       names : scope-environment (scope-of (r .fs)) (c .variables) ≡ environment (r .fs)
       names = shown-environment (c .sets) (c .cursors) (c .variables) (r .fs) (r .shown)
 
+      left-as : {at : ℕ} → Leaves w A (scope-of (r .fs)) at → A .leaves (c .variables) (c .store) at ≡ store-image w (r .tables) store₀
+      left-as {at} t = ap (λ s. A .leaves (c .variables) s at) (r .image) ∙ (rw point-tables at (t .right steps (c .variables) store₀ handed))
+
       tested : {at : ℕ} {x : Expression} → Tests w A (scope-of (r .fs)) at x → A .tests (c .variables) (c .store) at ≡ mean w (r .tables) (environment (r .fs)) x
       tested {at} t = ap (λ s. A .tests (c .variables) s at) (r .image) ∙ (rw (point-tables, names) at (t .right steps (c .variables) store₀ handed))
 
@@ -180,10 +183,10 @@ module _ (w : Accepted) (A : Actions) (code : List ℕ) (store₀ : List ℕ) (b
 
     -- a test at a place, by its value
     run-tested : (at y n : ℕ) → Within (elements w) (r .fs) → Tested w A code (r .fs) at y n (r .k) (r .tables) (r .output) steps
-        → Run w A code store₀ buffer₀ (goes A (elements w) (cond (A .tests (c .variables) (c .store) at) y n) c) (suc steps)
+        → Run w A code store₀ buffer₀ (goes-after A (elements w) at (cond (A .tests (c .variables) (c .store) at) y n) c) (suc steps)
     run-tested at y n i t =
-        quietly (r .tables) (goes A (elements w) (cond (A .tests (c .variables) (c .store) at) y n) c)
-        (t .stepped (A .tests (c .variables) (c .store) at) (sym (tested i (t .does)))) i refl refl refl (r .image) refl refl
+        quietly (r .tables) (goes-after A (elements w) at (cond (A .tests (c .variables) (c .store) at) y n) c)
+        (t .stepped (A .tests (c .variables) (c .store) at) (sym (tested i (t .does)))) i refl refl refl (left-as i (t .does .leaves)) refl refl
 
     pub run-test : {n : ℕ} → instr code (c .pc) ≡ TEST n → Run w A code store₀ buffer₀ (turn-by A (elements w) (TEST n) c) (suc steps)
     run-test {n} e = run-tested (c .pc) (suc (c .pc)) n (rw e at (r .within)) (sim-test w A code (r .tables) (r .output) steps (rw e at (r .at)))
@@ -201,7 +204,7 @@ module _ (w : Accepted) (A : Actions) (code : List ℕ) (store₀ : List ℕ) (b
           let st = s .stepped g v (ranged i (s .does)) in
           advance _ (r .tables) (r .output) (turn-by A (elements w) (RANGE d n) c) st
           (shown-open (c .sets) (c .cursors) (c .variables) (r .fs) (s .v .text) d g (s .depth) (omega (arith, s .small, z .sets)) (omega (arith, s .small, z .cursors)) (r .shown))
-          (rw (s .next) i) (omega (arith, s .depth, s .small)) (r .image) (r .count) (r .fits) (r .bytes)
+          (rw (s .next) i) (omega (arith, s .depth, s .small)) (left-as i (s .does .leaves)) (r .count) (r .fits) (r .bytes)
 
       pub run-next : {d n : ℕ} → instr code (c .pc) ≡ NEXT d n → (left-at (elements w) (c .sets) (c .cursors) d ≡ [] → ⊥)
           → Run w A code store₀ buffer₀ (turn-by A (elements w) (NEXT d n) c) (suc steps)
@@ -239,17 +242,36 @@ module _ (w : Accepted) (A : Actions) (code : List ℕ) (store₀ : List ℕ) (b
       print-length : length (r .output ++ more) ≡ c .used + length (bytes A (elements w) c)
       print-length = omega (arith, length-append (r .output) more, r .count, ap length print-bytes)
 
-      pub run-print : c .used + length (bytes A (elements w) c) ≤ length (c .buffer) → Run w A code store₀ buffer₀ (turn-by A (elements w) PRINT c) (suc steps)
+      pub run-print : c .used + length (bytes A (elements w) c) ≤ length (c .buffer) → Run w A code store₀ buffer₀ (printed-by A (elements w) c) (suc steps)
       run-print h =
-          advance (r .fs) (r .tables) (r .output ++ more) (turn-by A (elements w) PRINT c) (prints .stepped) (r .shown)
-          (within-around (elements w) (instr code (suc (c .pc))) (r .fs) print-within) (r .depth) (r .image) (sym print-length)
+          advance (r .fs) (r .tables) (r .output ++ more) (printed-by A (elements w) c) (prints .stepped) (r .shown)
+          (within-around (elements w) (instr code (suc (c .pc))) (r .fs) print-within) (r .depth) (left-as print-within (prints .does .leaves)) (sym print-length)
           (rw print-length (omega (arith, buffer-length, h)))
           (ap (λ b. sets b (c .used) (bytes A (elements w) c)) (r .bytes)
           ∙ ap (λ n. sets (r .output ++ drop (length (r .output)) buffer₀) n (bytes A (elements w) c)) (r .count)
           ∙ ap (λ x. sets (r .output ++ drop (length (r .output)) buffer₀) (length (r .output)) x) print-bytes
           ∙ written (r .output) more buffer₀ (omega (arith, length-append (r .output) more, print-length, ap length (r .bytes), h)))
 
-      -- a PRINT that does not fit
+      -- a PRINT that does not fit leaves the machine where it was
+      pub run-stay : Run w A code store₀ buffer₀ (goes-after A (elements w) (c .pc) (c .pc) c) steps
+      run-stay =
+          record {
+            fs = r .fs;
+            k = r .k;
+            tables = r .tables;
+            output = r .output;
+            same = r .same;
+            at = r .at;
+            shown = r .shown;
+            within = r .within;
+            depth = r .depth;
+            long = r .long;
+            image = left-as print-within (prints .does .leaves);
+            count = r .count;
+            fits = r .fits;
+            bytes = r .bytes;
+          }
+
       pub run-unfit : length (c .buffer) < c .used + length (bytes A (elements w) c) → Unfit w (length buffer₀) steps
       unfolding point
       run-unfit h =

@@ -25,6 +25,8 @@ pub record Actions : Type 0 where
   pub assigns : List ℕ → List ℕ → ℕ → List ℕ
   -- the bytes of the PRINT at a place
   pub prints : List ℕ → List ℕ → ℕ → Text
+  -- the store after a test, a FOR's set or a PRINT at a place, which work in the scratch words
+  pub leaves : List ℕ → List ℕ → ℕ → List ℕ
 
 -- of the n numbers from a on, those whose bit is set in s, ascending
 unfoldable pub members : ℕ → ℕ → ℕ → List ℕ
@@ -48,12 +50,18 @@ module _ (w : Accepted) (A : Actions) where
   abbrev pub store-at : ℕ → List ℕ → List ℕ
   store-at n store₀ = store-image w (point w n .tables) store₀
 
+  -- at every point of the run, the scratch words are left as they were
+  pub record Leaves (scope : List Text) (at : ℕ) : Type 0 where
+    pub right : (n : ℕ) (vs store₀ : List ℕ) → Handed scope vs store₀ → A .leaves vs (store-at n store₀) at ≡ store-at n store₀
+
   -- at every point of the run, the action at a place does what the definition says of the statement
   pub record Tests (scope : List Text) (at : ℕ) (e : Expression) : Type 0 where
+    pub leaves : Leaves scope at
     pub right : (n : ℕ) (vs store₀ : List ℕ) → Handed scope vs store₀
         → A .tests vs (store-at n store₀) at ≡ mean w (point w n .tables) (scope-environment scope vs) e
 
   pub record Ranges (scope : List Text) (at : ℕ) (e : Expression) : Type 0 where
+    pub leaves : Leaves scope at
     pub right : (n : ℕ) (vs store₀ : List ℕ) → Handed scope vs store₀
         → answers w (point w n .tables) (scope-environment scope vs) e ≡ map single (members (A .ranges vs (store-at n store₀) at) 0 (elements w))
 
@@ -63,5 +71,6 @@ module _ (w : Accepted) (A : Actions) where
         ≡ store-image w (assign-tables w (point w n .tables) (scope-environment scope vs) (r .text) ps e (w .relations) (point w n .tables)) store₀
 
   pub record Prints (scope : List Text) (at : ℕ) (is : List Item) : Type 0 where
+    pub leaves : Leaves scope at
     pub right : (n : ℕ) (vs store₀ : List ℕ) → Handed scope vs store₀
         → A .prints vs (store-at n store₀) at ≡ print-text w (point w n .tables) (scope-environment scope vs) is

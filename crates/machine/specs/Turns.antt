@@ -84,25 +84,35 @@ module _ (A : Actions) (u : ℕ) where
   abbrev pub goes : ℕ → Held → Held
   goes n c = held n (c .used) (c .store) (c .buffer) (c .sets) (c .cursors) (c .variables)
 
+  -- after an action at a place that changes no table
+  abbrev pub goes-after : ℕ → ℕ → Held → Held
+  goes-after at n c = held n (c .used) (A .leaves (c .variables) (c .store) at) (c .buffer) (c .sets) (c .cursors) (c .variables)
+
+  abbrev pub printed : Held → Held
+  printed c =
+      held (suc (c .pc)) (c .used + length (bytes c)) (A .leaves (c .variables) (c .store) (c .pc)) (sets (c .buffer) (c .used) (bytes c))
+      (c .sets) (c .cursors) (c .variables)
+
+  -- a PRINT that does not fit "writes nothing and is no step"
   abbrev pub turn-by : Instr → Held → Held
   turn-by END c = c
   turn-by PASS c = c
   turn-by ASSIGN c =
       held (suc (c .pc)) (c .used) (A .assigns (c .variables) (c .store) (c .pc)) (c .buffer) (c .sets) (c .cursors) (c .variables)
-  turn-by PRINT c =
-      held (suc (c .pc)) (c .used + length (bytes c)) (c .store) (sets (c .buffer) (c .used) (bytes c)) (c .sets) (c .cursors) (c .variables)
-  turn-by (TEST n) c = goes (cond (A .tests (c .variables) (c .store) (c .pc)) (suc (c .pc)) n) c
-  turn-by (AGAIN n) c = goes (cond (A .tests (c .variables) (c .store) (n - 1)) n (suc (c .pc))) c
+  turn-by PRINT c = cond (overflows PRINT c) (goes-after (c .pc) (c .pc) c) (printed c)
+  turn-by (TEST n) c = goes-after (c .pc) (cond (A .tests (c .variables) (c .store) (c .pc)) (suc (c .pc)) n) c
+  turn-by (AGAIN n) c = goes-after (n - 1) (cond (A .tests (c .variables) (c .store) (n - 1)) n (suc (c .pc))) c
   turn-by (RANGE d n) c =
-      held n (c .used) (c .store) (c .buffer) (set (c .sets) d (A .ranges (c .variables) (c .store) (c .pc))) (set (c .cursors) d 0) (c .variables)
+      held n (c .used) (A .leaves (c .variables) (c .store) (c .pc)) (c .buffer) (set (c .sets) d (A .ranges (c .variables) (c .store) (c .pc)))
+      (set (c .cursors) d 0) (c .variables)
   turn-by (NEXT d n) c =
       let a = next-at u (c .sets) (c .cursors) d in
       held n (c .used) (c .store) (c .buffer) (c .sets) (set (c .cursors) d (suc a)) (set (c .variables) d a)
   turn-by (JUMP n) c = c
 
-  -- the step at the machine's place; where its bytes do not fit it is no step
+  -- the step at the machine's place
   unfoldable pub turn : List ℕ → Held → Held
-  turn code c = let i = instr code (c .pc) in cond (overflows i c) c (turn-by i c)
+  turn code c = turn-by (instr code (c .pc)) c
 
   unfoldable pub is-full : List ℕ → Held → Bool
   is-full code c = overflows (instr code (c .pc)) c
