@@ -2,3 +2,6 @@
 pub mod WordLaws
 pub mod ElementLaws
 pub mod LineLaws
+pub mod RelationLaws
+pub mod UseLaws
+pub mod FactLaws

@@ -2,7 +2,7 @@
 use Prim.Native.Nat.{ℕ, suc, _+_, _≤_}
 use mathlib.Core.Bool.{Bool, true, false, cond}
 use mathlib.Core.List.{List, [], _∷_}
-use lib.ListN.{length, take, drop}
+use lib.ListN.{length, getD, take, drop}
 use Rattle.definition.specs.Text.{if_then_else_, Text, ascii, starts, span, is-blank}
 use Rattle.definition.specs.Limits.{WORD-BYTES, ARITY}
 use Rattle.definition.specs.Answer.{Answer, ok, refused, _>>=_}
@@ -29,6 +29,9 @@ element-of l i x = record { value = take (x .len) (drop (start-of x) l); quoted 
 -- the elements of a fact, in order
 abbrev pub items-of : FactLine → List Item
 items-of f = take (f .arity) (f .first ∷ f .second ∷ f .third ∷ [])
+
+abbrev pub item-at : FactLine → ℕ → Item
+item-at f i = getD (f .first ∷ f .second ∷ f .third ∷ []) i (f .third)
 
 abbrev pub elements-of : Text → ℕ → List Item → List Element
 elements-of l i [] = []
@@ -74,10 +77,12 @@ role-of l i (TooMany p) = says (refused 5 (i + p))
 -- an item of a line of n bytes
 pub record Within (n : ℕ) (x : Item) : Type 0 where
   pub place : x .place ≤ n
+  pub end : start-of x + x .len ≤ n
   pub len : x .len ≤ WORD-BYTES
 
 pub record AllWithin (n : ℕ) (f : FactLine) : Type 0 where
   pub name : f .«name_len» ≤ WORD-BYTES
+  pub name-end : f .«name_len» ≤ n
   pub arity : f .arity ≤ ARITY
   pub first : Within n (f .first)
   pub second : Within n (f .second)

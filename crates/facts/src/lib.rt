@@ -1,12 +1,19 @@
 // The facts: a line read as a part of the text.
 ghost use mathlib.Core.Path.{_≡_};
 ghost use mathlib.Core.List.{[], _∷_, _++_};
-ghost use Prim.Native.Nat.{ℕ, _+_, _≤_, _<_};
+ghost use Prim.Native.Nat.{ℕ, _+_, _-_, _≤_, _<_};
 ghost use lib.ListN.{length, getD, take, drop};
-ghost use Rattle.definition.specs.Text.{starts};
-ghost use Rattle.definition.specs.Limits.{ARITY, WORD-BYTES};
-ghost use Rattle.definition.specs.Facts.{word, fact};
-ghost use Rattle.facts.specs.Lines.{Within, AllWithin, NextWithin, ReadWithin, items-of, line-at, next-word, word-of, Role, says, says-elements, role, role-of};
+ghost use Rattle.definition.specs.Text.{Text, starts};
+ghost use Rattle.definition.specs.Limits.{ARITY, WORD-BYTES, FACT-BYTES};
+ghost use Rattle.definition.specs.Facts.{word, fact, last-place};
+ghost use Rattle.facts.specs.Lines.{Within, AllWithin, NextWithin, ReadWithin, items-of, item-at, line-at, next-word, word-of, Role, says, says-elements, role, role-of};
+ghost use Rattle.facts.specs.Words.{elements-at, item-word};
+ghost use Rattle.facts.specs.Pass.{RelationUsed, UniverseUsed, FactTaken};
+use definition::Refusal;
+use parts::Entered;
+use parts::enter_part;
+use parts::index_of;
+use parts::packed;
 use texts::Class;
 use texts::is_name;
 use texts::run_end;
@@ -217,4 +224,151 @@ pub fn read_line(l: &[u8]) -> LineRead
         return LineRead::Skipped;
     }
     read_fact(l)
+}
+
+// How many relations there are after the use of a name, or that it has another arity, or that there is no room for one more.
+enum Used {
+    Count(usize),
+    OtherArity,
+    Full,
+}
+
+// The use of the name v, whose tag is its arity, after the first n relations.
+fn use_relation<'a>(
+    facts: &'a [u8],
+    query: &'a [u8],
+    relations: &mut [usize],
+    n: usize,
+    v: usize,
+) -> Used
+    requires { ⌜ n ≤ length (now relations) ⌝ }
+    ensures { λ r. ⌜ RelationUsed (now (facts .entry)) (now (query .entry)) v (now (relations .entry)) (now (relations .exit)) n r ⌝ }
+{
+    let k = index_of(facts, query, &relations[..n], v);
+    if k < n {
+        let w = relations[k];
+        if w % 4 != v % 4 {
+            return Used::OtherArity;
+        }
+        return Used::Count(n);
+    }
+    if n == relations.len() {
+        return Used::Full;
+    }
+    relations[n] = v;
+    Used::Count(n + 1)
+}
+
+fn item_at(f: FactLine, i: usize) -> Item
+    ensures { λ r. ⌜ r ≡ item-at f i ⌝ }
+{
+    match i {
+        0 => f.first,
+        1 => f.second,
+        _ => f.third,
+    }
+}
+
+// The number of an element of the line that starts at a.
+fn element_word(a: usize, x: Item) -> usize
+    requires { ⌜ (a ≤ FACT-BYTES) × (x .place ≤ FACT-BYTES) × (x .len ≤ WORD-BYTES) ⌝ }
+    ensures { λ r. ⌜ r ≡ item-word a x ⌝ }
+{
+    let p = x.place;
+    if x.quoted {
+        return packed(0, a + (p + 1), x.len, 1);
+    }
+    packed(0, a + p, x.len, 0)
+}
+
+// How many elements there are after a fact, or the place of the one for which there is no room.
+enum ElementsUsed {
+    Elements(usize),
+    TooMany(usize),
+}
+
+// Enters the elements of a fact of the line that starts at a into the universe of n elements.
+fn use_elements<'a>(
+    facts: &'a [u8],
+    query: &'a [u8],
+    universe: &mut [usize],
+    n: usize,
+    a: usize,
+    f: FactLine,
+) -> ElementsUsed
+    requires { ⌜ (n ≤ length (now universe)) × (a ≤ length (now facts)) × (length (now facts) ≤ FACT-BYTES) × AllWithin (length (now facts) - a) f ⌝ }
+    ensures { λ r. ⌜ UniverseUsed (now (facts .entry)) (now (query .entry)) a f (now (universe .entry)) (now (universe .exit)) n r ⌝ }
+{
+    let arity = f.arity;
+    let mut count = n;
+    let mut i: usize = 0;
+    while i < arity {
+        let x = item_at(f, i);
+        match enter_part(facts, query, universe, count, element_word(a, x)) {
+            Entered::Full => return ElementsUsed::TooMany(a + x.place),
+            Entered::Count(m) => {
+                count = m;
+            }
+        }
+        i += 1;
+    }
+    ElementsUsed::Elements(count)
+}
+
+// "at the line's last element or, with none, its name"
+fn last_place(a: usize, f: FactLine) -> usize
+    requires { ⌜ (a ≤ FACT-BYTES) × AllWithin FACT-BYTES f ⌝ }
+    ensures { λ r. ⌜ ((facts : Text) → last-place a (elements-at facts a (items-of f)) ≡ r) ⌝ }
+{
+    let k = f.arity;
+    if k == 0 {
+        return a;
+    }
+    let x = item_at(f, k - 1);
+    a + x.place
+}
+
+// How many relations and elements there are.
+pub struct Counts {
+    pub relations: usize,
+    pub elements: usize,
+}
+
+enum FactUsed {
+    Fits(Counts),
+    Refused(Refusal),
+}
+
+// Takes in a fact of the line that starts at a: "then 5 for another arity ..; then 6, 7".
+fn with_fact<'a>(
+    facts: &'a [u8],
+    query: &'a [u8],
+    relations: &mut [usize],
+    universe: &mut [usize],
+    c: Counts,
+    a: usize,
+    f: FactLine,
+) -> FactUsed
+    requires { ⌜ (c .relations ≤ length (now relations)) × (c .elements ≤ length (now universe)) × (a ≤ length (now facts)) × (length (now facts) ≤ FACT-BYTES) × AllWithin (length (now facts) - a) f ⌝ }
+    ensures { λ r. ⌜ FactTaken (now (facts .entry)) (now (query .entry)) a f (now (relations .entry)) (now (relations .exit)) (now (universe .entry)) (now (universe .exit)) c r ⌝ }
+{
+    let n = c.relations;
+    let m = c.elements;
+    match use_relation(
+        facts,
+        query,
+        relations,
+        n,
+        packed(0, a, f.name_len, f.arity),
+    ) {
+        Used::Full => FactUsed::Refused(Refusal::TooManyRelations(a)),
+        Used::OtherArity => FactUsed::Refused(Refusal::Arity(last_place(a, f))),
+        Used::Count(r) => match use_elements(facts, query, universe, m, a, f) {
+            ElementsUsed::TooMany(p) => FactUsed::Refused(Refusal::TooManyElements(p)),
+            ElementsUsed::Elements(e) => FactUsed::Fits(Counts {
+                relations: r,
+                elements: e,
+            }),
+        },
+    }
 }

@@ -1,8 +1,8 @@
 -- Lists of parts: those of the universe stand in byte order, and a tag of 1 says that some fact quoted the element.
-use Prim.Native.Nat.{ℕ, _+_}
+use Prim.Native.Nat.{ℕ, _+_, _≤_}
 use mathlib.Core.Path.{_≡_}
 use mathlib.Core.Bool.{Bool, _&&_, not}
-use mathlib.Core.List.{List, [], _∷_, _++_}
+use mathlib.Core.List.{List, [], _∷_, _++_, map}
 use lib.Dec.{ltb, eqb}
 use lib.ListN.{length, take, drop}
 use Rattle.definition.specs.Text.{if_then_else_, Text, same, earlier, span}
@@ -33,3 +33,27 @@ in-front es words = if ltb (length words) (length es) then words else (es ++ dro
 
 abbrev pub count-in : List ℕ → List ℕ → Entered
 count-in es words = if ltb (length words) (length es) then Full else (Count (length es))
+
+module _ (facts query : Text) where
+  -- the texts of a list of parts
+  abbrev pub texts-of : List ℕ → List Text
+  texts-of ws = map (text-of facts query) ws
+
+  -- several parts entered, one after another
+  unfoldable pub enter-all : List ℕ → List ℕ → List ℕ
+  enter-all [] ws = ws
+  enter-all (v ∷ vs) ws = enter-all vs (enter facts query v ws)
+
+  -- a list of parts in order of first appearance, with one more
+  unfoldable pub note : ℕ → List ℕ → List ℕ
+  note v ws = if ltb (index facts query v ws) (length ws) then ws else (ws ++ (v ∷ []))
+
+  unfoldable pub note-all : List ℕ → List ℕ → List ℕ
+  note-all [] ws = ws
+  note-all (v ∷ vs) ws = note-all vs (note v ws)
+
+-- the list ws stands in the first n words, and the words after it are the old ones
+pub record Held (old words ws : List ℕ) (n : ℕ) : Type 0 where
+  pub count : n ≡ length ws
+  pub room : n ≤ length old
+  pub is : words ≡ ws ++ drop n old

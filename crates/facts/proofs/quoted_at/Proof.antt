@@ -39,7 +39,7 @@ add-t10 : tie.Need-add-t10
 add-t10 c = search needs
 
 returns-4 : tie.Need-returns-4
-returns-4 c = (quoted-good-at _ _ _ (c .before .before .before .before .before .before .pre .0) (c .before .before .before .before .before .before .pre .1) (c .before .before .before .before .run-end .ensures .0) _ (c .before .run-end2 .ensures .0) (omega arith) (c .before .before .if2 .left) (c .if3 .left), (record { place = omega arith; len = c .before .before .if2 .left }, omega arith))
+returns-4 c = (quoted-good-at _ _ _ (c .before .before .before .before .before .before .pre .0) (c .before .before .before .before .before .before .pre .1) (c .before .before .before .before .run-end .ensures .0) _ (c .before .run-end2 .ensures .0) (omega arith) (c .before .before .if2 .left) (c .if3 .left), (record { place = omega arith; end = omega arith; len = c .before .before .if2 .left }, omega arith))
 
 pub quoted-at-spec : {M : Type 1} → statement M
 quoted-at-spec =

@@ -32,7 +32,7 @@ no-item-requires : tie.Need-no-item-requires Inv-loop μ-loop
 no-item-requires c κs = search needs
 
 loop-holds : tie.Need-loop-holds Inv-loop μ-loop
-loop-holds c = (c .before .before .pre .0, refl, record { name = c .before .before .pre .1; arity = omega arith; first = c .no-item .ensures _; second = c .no-item .ensures _; third = c .no-item .ensures _ }, read-start _ _ _ refl)
+loop-holds c = (c .before .before .pre .0, refl, record { name = c .before .before .pre .1; name-end = c .before .before .pre .0; arity = omega arith; first = c .no-item .ensures _; second = c .no-item .ensures _; third = c .no-item .ensures _ }, read-start _ _ _ refl)
 
 next-at-requires : tie.Need-next-at-requires Inv-loop μ-loop
 next-at-requires c κs = search needs
