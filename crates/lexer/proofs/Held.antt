@@ -19,8 +19,7 @@ use Rattle.definition.specs.Reader.{read-program}
 use Rattle.definition.specs.Syntax.{Program, says}
 use Rattle.definition.specs.Accept.{lexed-answer, read-answer, read-query}
 use Rattle.lexer.specs.Tokens.{terminal-of, sign-of, sign-kind, kind-for, kind-of, size-of, at-of, start-of, token-of, tokens-of, terminals-of, Inside, FIRST-SIGN, LAST-SIGN, NAME, STRING}
-use Rattle.lexer.proofs.Marks.{either-way}
-use Rattle.lexer.proofs.Sizes.{first, second}
+use Rattle.lexer.proofs.Choices.{either-way, first, second}
 use Rattle.lexer.specs.Answers.{query-tokens}
 
 -- as many tokens as words

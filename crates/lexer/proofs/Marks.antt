@@ -2,7 +2,6 @@
 use mathlib.Core.Path.{_≡_, refl, sym}
 use mathlib.Core.Bool.{Bool, true, false, _&&_, cond}
 use mathlib.Core.List.{List, [], _∷_}
-use mathlib.Core.Logic.{_⊎_, inl, inr, ⊎-elim}
 use Prim.Native.Nat.{ℕ, _<_}
 use lib.Dec.{T, eqb, ltb, leb, lit<, ltb→lt, leb→le}
 use native.Mathlib.Omega.{arith}
@@ -14,10 +13,6 @@ use Rattle.lexer.specs.declared.Segment.{Segment}
 use Rattle.lexer.specs.declared.Segment.the-variants.{Lexeme, Neither}
 use Rattle.lexer.specs.Tokens.{terminal-of, sign-of, quote-of}
 use Rattle.lexer.specs.Segments.{piece-of, Small, Marked}
-
-pub either-way : (b : Bool) → (b ≡ true) ⊎ (b ≡ false)
-either-way true = inl refl
-either-way false = inr refl
 
 pub three-bytes : (x : ℕ) (xs : Text) → first-mark marks (x ∷ xs) ≡ first-mark marks (x ∷ getD xs 0 0 ∷ getD xs 1 0 ∷ [])
 unfolding first-mark marks starts
@@ -35,34 +30,27 @@ small k n h q = record { kind = ltb→lt k 64 h; size = lit< tt; text = omega (a
 pub is-mark : {r s : Segment} {b x y z : ℕ} → r ≡ s → b ≡ x → Marked x y z s → Marked b y z r
 is-mark e f m = rw (e, f) m
 
+-- a mark of two bytes, or the other segment
+two : (xs : Text) (k : ℕ) (o : Segment) (c : Bool) → piece-of xs (cond c (Lexeme k 0 2) o) ≡ cond (c && true) (token (terminal-of k) [] 2) (piece-of xs o)
+two xs k o true = refl
+two xs k o false = refl
+
 module _ (y z : ℕ) where
   pub colon : Marked 58 y z (cond (eqb 61 y) (Lexeme 8 0 2) Neither)
   unfolding first-mark marks starts terminal-of sign-of quote-of
-  colon = record {
-    piece = λ xs. ⊎-elim (λ (e : eqb 61 y ≡ true). rw e) (λ (e : eqb 61 y ≡ false). rw e) (either-way (eqb 61 y));
-    small = small-if (eqb 61 y) (Lexeme 8 0 2) Neither (small 8 2 tt tt) tt;
-  }
+  colon = record { piece = λ xs. two xs 8 Neither (eqb 61 y); small = small-if (eqb 61 y) (Lexeme 8 0 2) Neither (small 8 2 tt tt) tt }
 
   pub bang : Marked 33 y z (cond (eqb 61 y) (Lexeme 42 0 2) (Lexeme 11 0 1))
   unfolding first-mark marks starts terminal-of sign-of quote-of
-  bang = record {
-    piece = λ xs. ⊎-elim (λ (e : eqb 61 y ≡ true). rw e) (λ (e : eqb 61 y ≡ false). rw e) (either-way (eqb 61 y));
-    small = small-if (eqb 61 y) (Lexeme 42 0 2) (Lexeme 11 0 1) (small 42 2 tt tt) (small 11 1 tt tt);
-  }
+  bang = record { piece = λ xs. two xs 42 (Lexeme 11 0 1) (eqb 61 y); small = small-if (eqb 61 y) (Lexeme 42 0 2) (Lexeme 11 0 1) (small 42 2 tt tt) (small 11 1 tt tt) }
 
   pub dash : Marked 45 y z (cond (eqb 62 y) (Lexeme 12 0 2) Neither)
   unfolding first-mark marks starts terminal-of sign-of quote-of
-  dash = record {
-    piece = λ xs. ⊎-elim (λ (e : eqb 62 y ≡ true). rw e) (λ (e : eqb 62 y ≡ false). rw e) (either-way (eqb 62 y));
-    small = small-if (eqb 62 y) (Lexeme 12 0 2) Neither (small 12 2 tt tt) tt;
-  }
+  dash = record { piece = λ xs. two xs 12 Neither (eqb 62 y); small = small-if (eqb 62 y) (Lexeme 12 0 2) Neither (small 12 2 tt tt) tt }
 
   pub more : Marked 62 y z (cond (eqb 61 y) (Lexeme 46 0 2) (Lexeme 45 0 1))
   unfolding first-mark marks starts terminal-of sign-of quote-of
-  more = record {
-    piece = λ xs. ⊎-elim (λ (e : eqb 61 y ≡ true). rw e) (λ (e : eqb 61 y ≡ false). rw e) (either-way (eqb 61 y));
-    small = small-if (eqb 61 y) (Lexeme 46 0 2) (Lexeme 45 0 1) (small 46 2 tt tt) (small 45 1 tt tt);
-  }
+  more = record { piece = λ xs. two xs 46 (Lexeme 45 0 1) (eqb 61 y); small = small-if (eqb 61 y) (Lexeme 46 0 2) (Lexeme 45 0 1) (small 46 2 tt tt) (small 45 1 tt tt) }
 
   shorter : Segment
   shorter = cond (eqb 61 y) (Lexeme 44 0 2) (Lexeme 43 0 1)

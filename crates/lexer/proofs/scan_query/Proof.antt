@@ -2,7 +2,7 @@ use Rattle.lexer.proofs.scan_query.Statement.{statement}
 use Rattle.lexer.proofs.scan_query.Tie as tie
 use borrow.Author.Needs.{needs}
 use mathlib.Core.Path.{_≡_, refl, subst}
-use Prim.Native.Nat.{_-_, _≤_}
+use Prim.Native.Nat.{_<_, _+_, _-_, _≤_}
 use native.Mathlib.Omega.{arith}
 use denote.Ref.{now}
 use lib.ListN.{length, drop, length-set}
@@ -28,32 +28,28 @@ segment-at-requires c κs = search needs
 enum-known-n : tie.Need-enum-known-n Inv-loop μ-loop
 enum-known-n c = search needs
 
-add-at : tie.Need-add-at Inv-loop μ-loop
-add-at c =
-    let a = c .before .before .before .before .before .before .before .before .args in
-    let l = c .before .before .before .before .before .loop in
+-- a gap ends after it begins, within the query
+gap-past : (c : tie.After-known-told Inv-loop μ-loop)
+    → (let at = c .before .before .before .before .before .loop .at in let n = c .before .n .given .0 .0 in (at < at + n) × (at + n ≤ length (now (c .before .before .before .before .before .before .before .before .args .query))))
+gap-past c =
     let f = c .before .before .before .segment-at in
-    let w = past-gap (now (a .query)) (l .at) (c .before .before .before .before .loop-test .taken) (f .result) (f .ensures .0) (c .before .n .given .1) in
-    omega arith
+    past-gap (now (c .before .before .before .before .before .before .before .before .args .query)) (c .before .before .before .before .before .loop .at) (c .before .before .before .before .loop-test .taken) (f .result) (f .ensures .0) (c .before .n .given .1)
+
+add-at : tie.Need-add-at Inv-loop μ-loop
+add-at c = let w = gap-past c in omega arith
 
 loop-less : tie.Need-loop-less Inv-loop μ-loop
-loop-less c =
-    let a = c .before .before .before .before .before .before .before .before .args in
-    let l = c .before .before .before .before .before .loop in
-    let f = c .before .before .before .segment-at in
-    let w = past-gap (now (a .query)) (l .at) (c .before .before .before .before .loop-test .taken) (f .result) (f .ensures .0) (c .before .n .given .1) in
-    omega arith
+loop-less c = let w = gap-past c in omega arith
 
 loop-again : tie.Need-loop-again Inv-loop μ-loop
 loop-again c =
-    let a = c .before .before .before .before .before .before .before .before .args in
     let l = c .before .before .before .before .before .loop in
     let f = c .before .before .before .segment-at in
-    let w = past-gap (now (a .query)) (l .at) (c .before .before .before .before .loop-test .taken) (f .result) (f .ensures .0) (c .before .n .given .1) in (
+    let w = gap-past c in (
       w .1,
       omega arith,
       l .inv .2,
-      step-gap (now (a .query)) (l .at) (c .before .before .before .before .loop-test .taken) (f .result) (f .ensures .0) (l .inv .3) (c .before .n .given .1),
+      step-gap (now (c .before .before .before .before .before .before .before .before .args .query)) (l .at) (c .before .before .before .before .loop-test .taken) (f .result) (f .ensures .0) (l .inv .3) (c .before .n .given .1),
     )
 
 enum-known-kind : tie.Need-enum-known-kind Inv-loop μ-loop
@@ -73,36 +69,32 @@ overflow-requires c κs = search needs
 add-count : tie.Need-add-count Inv-loop μ-loop
 add-count c = search needs
 
-add-at-2 : tie.Need-add-at-2 Inv-loop μ-loop
-add-at-2 c =
-    let a = c .before .before .before .before .before .before .before .before .before .before .before .before .before .before .args in
-    let l = c .before .before .before .before .before .before .before .before .before .before .before .loop in
+-- and so does a token
+token-past : (c : tie.After-overflow Inv-loop μ-loop)
+    → (let at = c .before .before .before .before .before .before .before .before .before .before .before .loop .at in let n = c .before .before .before .before .before .before .before .kind .given .0 .1 .1 .0 in (at < at + n) × (at + n ≤ length (now (c .before .before .before .before .before .before .before .before .before .before .before .before .before .before .args .query))))
+token-past c =
     let f = c .before .before .before .before .before .before .before .before .before .segment-at in
-    let g = c .before .before .before .before .before .before .before .kind .given in
-    let w = past-token (now (a .query)) (l .at) (c .before .before .before .before .before .before .before .before .before .before .loop-test .taken) (f .result) (f .ensures .0) (g .1) in
-    omega arith
+    past-token (now (c .before .before .before .before .before .before .before .before .before .before .before .before .before .before .args .query)) (c .before .before .before .before .before .before .before .before .before .before .before .loop .at) (c .before .before .before .before .before .before .before .before .before .before .loop-test .taken) (f .result) (f .ensures .0) (c .before .before .before .before .before .before .before .kind .given .1)
+
+add-at-2 : tie.Need-add-at-2 Inv-loop μ-loop
+add-at-2 c = let w = token-past c in omega arith
 
 loop-less-2 : tie.Need-loop-less-2 Inv-loop μ-loop
-loop-less-2 c =
-    let a = c .before .before .before .before .before .before .before .before .before .before .before .before .before .before .args in
-    let l = c .before .before .before .before .before .before .before .before .before .before .before .loop in
-    let f = c .before .before .before .before .before .before .before .before .before .segment-at in
-    let g = c .before .before .before .before .before .before .before .kind .given in
-    let w = past-token (now (a .query)) (l .at) (c .before .before .before .before .before .before .before .before .before .before .loop-test .taken) (f .result) (f .ensures .0) (g .1) in
-    omega arith
+loop-less-2 c = let w = token-past c in omega arith
 
 loop-again-2 : tie.Need-loop-again-2 Inv-loop μ-loop
 loop-again-2 c =
-    let a = c .before .before .before .before .before .before .before .before .before .before .before .before .before .before .args in
+    let s = c .before .before .before .before .before .before .before .before .before .before .before .before .before .before in
     let l = c .before .before .before .before .before .before .before .before .before .before .before .loop in
     let f = c .before .before .before .before .before .before .before .before .before .segment-at in
-    let g = c .before .before .before .before .before .before .before .kind .given in
-    let w = past-token (now (a .query)) (l .at) (c .before .before .before .before .before .before .before .before .before .before .loop-test .taken) (f .result) (f .ensures .0) (g .1) in (
+    let p = c .before .before .before .put .ensures in
+    let w = token-past c in (
       w .1,
       omega arith,
-      rw (c .before .before .before .put .ensures) (simp length-set (l .inv .2)),
-      rw (c .before .before .before .put .ensures, c .before .before .before .before .packed .ensures, c .overflow .ensures)
-          (step-token (now (a .query)) (l .at) (c .before .before .before .before .before .before .before .before .before .before .loop-test .taken) (f .result) (f .ensures .0) (l .inv .3) (g .1) (f .ensures .1) (omega (arith, c .before .before .before .before .before .before .before .before .before .before .before .before .before .before .pre, l .inv .2))),
+      rw p (simp length-set (l .inv .2)),
+      rw (p, c .before .before .before .before .packed .ensures, c .overflow .ensures)
+          (step-token (now (s .args .query)) (l .at) (c .before .before .before .before .before .before .before .before .before .before .loop-test .taken) (f .result) (f .ensures .0) (l .inv .3) (c .before .before .before .before .before .before .before .kind .given .1) (f .ensures .1)
+          (omega (arith, s .pre, l .inv .2))),
     )
 
 enum-told : tie.Need-enum-told Inv-loop μ-loop
