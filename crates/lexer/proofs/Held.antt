@@ -6,20 +6,17 @@ use Prim.Native.Nat.{ℕ, zero, suc, _+_, _-_, _≤_, _<_}
 use native.Mathlib.Nat.{zero-add, add-zero, add-suc, suc-add, not-suc-le-zero, le-of-suc-le-suc}
 use native.Mathlib.Numerals.{add-one}
 use native.Mathlib.Omega.{arith}
-use mathlib.Core.Logic.{_⊎_, ⊎-elim}
-use borrow.Author.Tests.{eqb-true, eqb-false, leb-true}
-use lib.Dec.{eqb, leb, ltb}
+use lib.Dec.{ltb}
 use lib.ListN.{length, drop, getD, length-drop, drop-of-length-le}
 use lib.Seq.{length-take-le}
-use Rattle.definition.specs.Text.{Text, between}
+use Rattle.definition.specs.Text.{Text}
 use Rattle.definition.specs.Limits.{QUERY-BYTES, TOKENS}
 use Rattle.definition.specs.Answer.{Answer, ok, refused, _>>=_, _>>_, refuse-if}
 use Rattle.definition.specs.Token.{Terminal, Token, terminals, token-at, place-at, lexed}
 use Rattle.definition.specs.Reader.{read-program}
 use Rattle.definition.specs.Syntax.{Program, says}
 use Rattle.definition.specs.Accept.{lexed-answer, read-answer, read-query}
-use Rattle.lexer.specs.Tokens.{terminal-of, sign-of, sign-kind, kind-for, kind-of, size-of, at-of, start-of, token-of, tokens-of, terminals-of, Inside, FIRST-SIGN, LAST-SIGN, NAME, STRING}
-use Rattle.lexer.proofs.Choices.{either-way, first, second}
+use Rattle.lexer.specs.Tokens.{terminal-of, kind-of, size-of, at-of, start-of, token-of, tokens-of, terminals-of, Inside}
 use Rattle.lexer.specs.Answers.{query-tokens}
 
 -- as many tokens as words
@@ -84,33 +81,6 @@ pub place-past : (m : ℕ) (ts : List Token) (i : ℕ) → length ts ≤ i → p
 place-past m [] i h = refl
 place-past m (t ∷ ts) zero h = absurd (not-suc-le-zero h)
 place-past m (t ∷ ts) (suc i) h = place-past m ts i (le-of-suc-le-suc h)
-
--- a kind is known by what the grammar sees of it
-sign-seen : (k : ℕ) → FIRST-SIGN ≤ k → k ≤ LAST-SIGN → sign-kind (sign-of k) ≡ k
-unfolding sign-of
-sign-seen k a b =
-    ⊎-elim (λ (e : eqb k 41 ≡ true). rw e (sym (eqb-true k 41 e)))
-    (λ (e : eqb k 41 ≡ false). ⊎-elim (λ (f : eqb k 42 ≡ true). rw (e, f) (sym (eqb-true k 42 f)))
-    (λ (f : eqb k 42 ≡ false). ⊎-elim (λ (g : eqb k 43 ≡ true). rw (e, f, g) (sym (eqb-true k 43 g)))
-    (λ (g : eqb k 43 ≡ false). ⊎-elim (λ (h : eqb k 44 ≡ true). rw (e, f, g, h) (sym (eqb-true k 44 h)))
-    (λ (h : eqb k 44 ≡ false). ⊎-elim (λ (j : eqb k 45 ≡ true). rw (e, f, g, h, j) (sym (eqb-true k 45 j)))
-    (λ (j : eqb k 45 ≡ false).
-    let e' = eqb-false k 41 e in
-    let f' = eqb-false k 42 f in
-    let g' = eqb-false k 43 g in
-    let h' = eqb-false k 44 h in
-    let j' = eqb-false k 45 j in
-    rw (e, f, g, h, j) (omega arith))
-    (either-way (eqb k 45))) (either-way (eqb k 44))) (either-way (eqb k 43))) (either-way (eqb k 42))) (either-way (eqb k 41))
-
-pub kind-seen : (k i : ℕ) → kind-for (terminal-of k i) ≡ k
-unfolding terminal-of
-kind-seen k i =
-    ⊎-elim (λ (e : between FIRST-SIGN LAST-SIGN k ≡ true).
-    rw e (sign-seen k (leb-true FIRST-SIGN k (first (leb FIRST-SIGN k) (leb k LAST-SIGN) e)) (leb-true k LAST-SIGN (second (leb FIRST-SIGN k) (leb k LAST-SIGN) e))))
-    (λ (e : between FIRST-SIGN LAST-SIGN k ≡ false). ⊎-elim (λ (f : eqb k NAME ≡ true). rw (e, f) (sym (eqb-true k NAME f)))
-    (λ (f : eqb k NAME ≡ false). ⊎-elim (λ (g : eqb k STRING ≡ true). rw (e, f, g) (sym (eqb-true k STRING g))) (λ (g : eqb k STRING ≡ false). rw (e, f, g))
-    (either-way (eqb k STRING))) (either-way (eqb k NAME))) (either-way (between FIRST-SIGN LAST-SIGN k))
 
 -- the tokens, and then the reader: the definition's `read-query`
 after-tokens : (long : Bool) (r p : ℕ) (l : Answer (List Token)) (n : ℕ) (rest : List Token → Answer Program)

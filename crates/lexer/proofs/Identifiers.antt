@@ -6,7 +6,7 @@ use native.Mathlib.Omega.{arith}
 use lib.Dec.{lit<, lit≤}
 use lib.ListN.{length, take}
 use lib.Seq.{length-take-le}
-use borrow.Author.Tests.{lt-ltb, le-ltb, lt-leb, ne-eqb}
+use borrow.Author.Tests.{lt-ltb, le-ltb, ne-eqb}
 use Rattle.definition.specs.Text.{Text, ascii, span, same, is-part, reserved}
 use Rattle.definition.specs.Limits.{WORD-BYTES}
 use Rattle.definition.specs.Token.{Terminal, name, key, token, neither, word, word-terminal, FIRST-WORD, UNDERSCORE}
@@ -17,8 +17,7 @@ use Rattle.lexer.specs.Segments.{piece-of, Packs}
 
 is-key : (k : ℕ) → k < 26 → (i : ℕ) → terminal-of (FIRST-WORD + k) i ≡ key (FIRST-WORD + k)
 unfolding terminal-of
-is-key k h i =
-    rw (lt-leb FIRST-SIGN (FIRST-WORD + k) (omega arith), ne-eqb (FIRST-WORD + k) NAME (λ z. absurd (omega arith)), ne-eqb (FIRST-WORD + k) STRING (λ z. absurd (omega arith)))
+is-key k h i = rw (lt-ltb (FIRST-WORD + k) FIRST-SIGN (omega arith))
 
 no-quote : (k : ℕ) → k < 26 → quote-of (FIRST-WORD + k) ≡ 0
 unfolding quote-of

@@ -1,4 +1,3 @@
-pub mod Choices
 pub mod Marks
 pub mod Sizes
 pub mod Lexing

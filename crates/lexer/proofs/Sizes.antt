@@ -10,7 +10,6 @@ use lib.ListN.{length, take, drop, length-take, length-drop}
 use Rattle.definition.specs.Text.{Text, ascii, span, all-of, same, starts, is-letter, is-part, is-blank}
 use Rattle.definition.specs.Limits.{WORD-BYTES}
 use Rattle.definition.specs.Token.{Terminal, Mark, marks, Piece, gap, token, neither, first-mark, word, quoted, comment, piece}
-use Rattle.lexer.proofs.Choices.{false-true, first, second}
 use Rattle.texts.proofs.RunLaws.{span-within}
 use Rattle.definition.proofs.BoolLaws.{and-left, and-right}
 
@@ -34,6 +33,17 @@ module _ {n : ℕ} where
 span-some : (p : ℕ → Bool) (x : ℕ) (xs : Text) → p x ≡ true → 0 < span p (x ∷ xs)
 unfolding span
 span-some p x xs e = rw e (omega arith)
+
+false-true : {A : Type 0} → false ≡ true → A
+false-true e = let z : _≡_ {A = ℕ} 0 1 = cc in absurd (omega arith)
+
+first : (a b : Bool) → (a && b) ≡ true → a ≡ true
+first true b e = refl
+first false b e = e
+
+second : (a b : Bool) → (a && b) ≡ true → b ≡ true
+second true b e = e
+second false b e = false-true e
 
 starts-length : (s xs : Text) → starts s xs ≡ true → length s ≤ length xs
 unfolding starts

@@ -1,17 +1,14 @@
 -- A token as one word of 64 bits: its kind, the length of its text and the place of its first byte.
 use mathlib.Core.List.{List, [], _∷_}
 use Prim.Native.Nat.{ℕ, suc, _+_, _/_, _%_, _≤_, _<_}
-use lib.Dec.{eqb}
+use lib.Dec.{eqb, ltb}
 use lib.ListN.{length, take, drop, getD}
-use Rattle.definition.specs.Text.{Text, if_then_else_, between}
+use Rattle.definition.specs.Text.{Text, if_then_else_}
 use Rattle.definition.specs.Token.{Sign, equal, unequal, less, at-most, greater, at-least, Terminal, name, string, sign, key, Token}
 
 -- "identifiers; reserved words; strings in double quotes ..": the kinds 0 to 40 are the definition's keys, then come the six signs, an identifier and a string
 abbrev pub FIRST-SIGN : ℕ
 FIRST-SIGN = 41
-
-abbrev pub LAST-SIGN : ℕ
-LAST-SIGN = 46
 
 abbrev pub NAME : ℕ
 NAME = 47
@@ -28,28 +25,13 @@ sign-of k =
     else if eqb k 45 then greater
     else at-least
 
--- what the grammar sees of a token of a kind, by the token's number
+-- what the grammar sees of a token of a kind, by the token's number; the lexer writes no kind past the last
 unfoldable pub terminal-of : ℕ → ℕ → Terminal
 terminal-of k i =
-    if between FIRST-SIGN LAST-SIGN k then (sign (sign-of k))
+    if ltb k FIRST-SIGN then (key k)
     else if eqb k NAME then (name i)
     else if eqb k STRING then (string i)
-    else (key k)
-
--- and back: the kind of what the grammar sees
-abbrev pub sign-kind : Sign → ℕ
-sign-kind equal = 41
-sign-kind unequal = 42
-sign-kind less = 43
-sign-kind at-most = 44
-sign-kind greater = 45
-sign-kind at-least = 46
-
-abbrev pub kind-for : Terminal → ℕ
-kind-for (name i) = NAME
-kind-for (string i) = STRING
-kind-for (sign g) = sign-kind g
-kind-for (key k) = k
+    else (sign (sign-of k))
 
 -- the parts of a word
 abbrev pub kind-of : ℕ → ℕ
