@@ -11,7 +11,7 @@ use lib.Seq.{length-take-le, set-split, getD-take, append-snoc}
 use borrow.Author.Tests.{le-ltb, lt-ltb, le-leb, lt-leb, eq-eqb, ne-eqb}
 use Rattle.definition.specs.Text.{Text, same, span}
 use Rattle.definition.specs.Answer.{Answer, ok, refused}
-use Rattle.definition.specs.Facts.{Relation, arities, use-relation}
+use Rattle.definition.specs.Facts.{Relation, arities, add-relation, use-relation}
 use Rattle.parts.specs.Packed.{tag-of, text-of}
 use Rattle.parts.specs.Entries.{index, note, Held}
 use Rattle.parts.proofs.HeldLaws.{held-first}
@@ -89,13 +89,13 @@ module _ (facts query : Text) (v : ℕ) where
       past = omega (arith, e, size, b)
 
       pub relation-full : n ≡ length words → RelationUsed facts query v words words n Full
-      unfolding use-relation
+      unfolding use-relation add-relation
       relation-full d =
           let m : length words ≤ length (relations-of facts query (take n words)) = omega (arith, size, length-relations (take n words)) in
           λ k p. rw (unknown (take n words) past, le-leb (length words) (length (relations-of facts query (take n words))) m)
 
       pub relation-new : n < length words → RelationUsed facts query v words (set words n v) n (Count (n + 1))
-      unfolding use-relation note
+      unfolding use-relation note add-relation
       relation-new d =
           let t = le-ltb (index facts query v (take n words)) (length (take n words)) (omega (arith, past)) in
           let m : length (relations-of facts query (take n words)) < length words = omega (arith, size, length-relations (take n words)) in (

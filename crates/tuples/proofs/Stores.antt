@@ -5,8 +5,8 @@ use mathlib.Core.List.{List, [], _∷_, _++_, append-assoc, append-nil}
 use native.Mathlib.Nat.{add-zero, add-suc, suc-add, not-suc-le-zero, le-of-suc-le-suc}
 use native.Mathlib.Omega.{arith}
 use native.Mathlib.Numerals.{add-one}
-use lib.ListN.{length, getD, set, take, drop, replicate, length-replicate, length-drop, drop-of-length-le, take-append-drop}
-use lib.Seq.{sets, take-suc, take-set-le, getD-set-other, length-take-le, sets-eq, set-comm, set-set, take-at, drop-at, drop-drop}
+use lib.ListN.{length, getD, set, take, drop, length-set, replicate, length-replicate, length-drop, drop-of-length-le, take-append-drop}
+use lib.Seq.{sets, take-suc, take-set-le, getD-set-other, set-out, length-take-le, sets-eq, set-comm, set-set, take-at, drop-at, drop-drop}
 
 zero-ne-suc : (n : ℕ) → 0 ≡ suc n → ⊥
 zero-ne-suc n e = omega arith
@@ -19,6 +19,11 @@ module _ {A : Type 0} where
   sets-append [] ys l i = ap (λ (k : ℕ). sets l k ys) (add-zero i)
   sets-append (a ∷ xs) ys l i =
       ap (λ (k : ℕ). sets (sets (set l i a) (suc i) xs) k ys) (add-suc i (length xs) ∙ sym (suc-add i (length xs))) ∙ sets-append xs ys (set l i a) (suc i)
+
+  -- past the end nothing is stored
+  pub sets-out : (xs l : List A) (i : ℕ) → length l ≤ i → sets l i xs ≡ l
+  sets-out [] l i h = refl
+  sets-out (a ∷ xs) l i h = ap (λ (k : List A). sets k (suc i) xs) (set-out l i a h) ∙ sets-out xs l (suc i) (omega arith)
 
   -- one more of a list's elements
   pub sets-more : (l : List A) (i : ℕ) (s : List A) (w : ℕ) (d : A) → w < length s → set (sets l i (take w s)) (i + w) (getD s w d) ≡ sets l i (take (w + 1) s)
