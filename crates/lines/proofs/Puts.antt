@@ -84,48 +84,48 @@ put-then {w} {out} {at} {x} {r} {out₁} {y} {r₂} {out₂} p q =
 -- ---- the two passes
 
 -- a count that does not fit, and one that does
-pub measured : {out : List ℕ} {at : ℕ} {x : List ℕ} {r : ℕ} {out₁ : List ℕ} → Put false out at x r out₁ → out₁ ≡ out
-measured p = p .bytes
-
-pub fits-not : {w : Bool} {out : List ℕ} {at : ℕ} {x : List ℕ} {r : ℕ} {out₁ : List ℕ} → Put w out at x r out₁ → length out < r → length out < at + length x
+fits-not : {w : Bool} {out : List ℕ} {at : ℕ} {x : List ℕ} {r : ℕ} {out₁ : List ℕ} → Put w out at x r out₁ → length out < r → length out < at + length x
 fits-not {w} {out} {at} {x} {r} {out₁} p h = omega (arith, p .end, min-le-left (at + length x) (length out + 1))
 
-pub fits-yes : {w : Bool} {out : List ℕ} {at : ℕ} {x : List ℕ} {r : ℕ} {out₁ : List ℕ} → Put w out at x r out₁ → r ≤ length out → r ≡ at + length x
+fits-yes : {w : Bool} {out : List ℕ} {at : ℕ} {x : List ℕ} {r : ℕ} {out₁ : List ℕ} → Put w out at x r out₁ → r ≤ length out → r ≡ at + length x
 fits-yes {w} {out} {at} {x} {r} {out₁} p h =
     ⊎-elim (λ l. p .end ∙ min-eq-left l) (λ l. absurd (no (p .end ∙ min-eq-right (omega arith)))) (le-or-lt (at + length x) (length out + 1))
   where
     no : r ≡ length out + 1 → ⊥
     no e = omega arith
 
--- written whole
-pub written : {out : List ℕ} {at : ℕ} {x : List ℕ} {r : ℕ} {out₁ : List ℕ} → Put true out at x r out₁ → at + length x ≤ length out
-    → out₁ ≡ take at out ++ x ++ drop (at + length x) out
-written {out} {at} {x} {r} {out₁} p h = p .bytes ∙ sets-eq x out at h
-
 -- what a machine says of its buffer: the output so far, and the buffer as it was given past that
-pub printed : (out₀ o x : List ℕ) → length o + length x ≤ length out₀
+written : (out₀ o x : List ℕ) → length o + length x ≤ length out₀
     → sets (o ++ drop (length o) out₀) (length o) x ≡ (o ++ x) ++ drop (length (o ++ x)) out₀
-printed out₀ o x h =
+written out₀ o x h =
     sets-eq x (o ++ drop (length o) out₀) (length o) (omega (arith, length-append o (drop (length o) out₀), length-drop (length o) out₀))
     ∙ ap₂ (λ (a b : List ℕ). a ++ x ++ b) (take-at o (drop (length o) out₀) (length o) refl)
     (sym (drop-drop (length x) (length o) (o ++ drop (length o) out₀)) ∙ ap (drop (length x)) (drop-at o (drop (length o) out₀) (length o) refl)
     ∙ drop-drop (length x) (length o) out₀ ∙ ap (λ (k : ℕ). drop k out₀) (sym (length-append o x)))
 
-pub print-full : {out : List ℕ} {at : ℕ} {x : List ℕ} {r : ℕ} {out₁ : List ℕ} → Put false out at x r out₁ → length out₁ < r → Printed out at x r out₁
+-- a place past the end
+pub print-past : (out : List ℕ) (at : ℕ) (x : List ℕ) → length out < at → Printed out at x (length out + 1) out
+print-past out at x h =
+    record {
+      end = sym (min-eq-right (omega arith));
+      bytes = ap (λ (b : Bool). cond b (sets out at x) out) (sym (lt-leb (at + length x) (length out) (omega arith)));
+    }
+
+pub print-full : {out : List ℕ} {at : ℕ} {x : List ℕ} {r : ℕ} {out₁ : List ℕ} → Put false out at x r out₁ → length out < r → Printed out at x r out₁
 print-full {out} {at} {x} {r} {out₁} p h =
     record {
       end = p .end;
-      bytes = p .bytes ∙ ap (λ (b : Bool). cond b (sets out at x) out) (sym (lt-leb (at + length x) (length out) (fits-not p (omega (arith, put-length p)))));
+      bytes = p .bytes ∙ ap (λ (b : Bool). cond b (sets out at x) out) (sym (lt-leb (at + length x) (length out) (fits-not p h)));
     }
 
 pub print-fits : {out : List ℕ} {at : ℕ} {x : List ℕ} {r : ℕ} {out₁ : List ℕ} {r₂ : ℕ} {out₂ : List ℕ}
-    → Put false out at x r out₁ → r ≤ length out₁ → Put true out₁ at x r₂ out₂ → Printed out at x r₂ out₂
+    → Put false out at x r out₁ → r ≤ length out → Put true out₁ at x r₂ out₂ → Printed out at x r₂ out₂
 print-fits {out} {at} {x} {r} {out₁} {r₂} {out₂} p h q =
     record {
       end = q .end ∙ ap (λ (k : ℕ). min (at + length x) (k + 1)) (put-length p);
       bytes =
           q .bytes ∙ ap (λ (l : List ℕ). sets l at x) (p .bytes)
-          ∙ ap (λ (b : Bool). cond b (sets out at x) out) (sym (le-leb (at + length x) (length out) (omega (arith, put-length p, fits-yes p (omega (arith, put-length p))))));
+          ∙ ap (λ (b : Bool). cond b (sets out at x) out) (sym (le-leb (at + length x) (length out) (omega (arith, fits-yes p h))));
     }
 
 -- a machine's buffer after a PRINT that fits
@@ -134,7 +134,7 @@ pub machine-fits : (out₀ o : List ℕ) {out : List ℕ} {at : ℕ} {x : List �
 machine-fits out₀ o {out} {at} {x} {r} {out₁} b c f p h = (
   ⊎-elim (λ l. p .end ∙ min-eq-left l ∙ omega (arith, length-append o x)) (λ l. absurd (no (p .end ∙ min-eq-right (omega arith)))) (le-or-lt (at + length x) (length out + 1)),
   p .bytes ∙ ap (λ (t : Bool). cond t (sets out at x) out) (le-leb (at + length x) (length out) small)
-      ∙ ap₂ (λ (l : List ℕ) (k : ℕ). sets l k x) b c ∙ printed out₀ o x (omega (arith, long)),
+      ∙ ap₂ (λ (l : List ℕ) (k : ℕ). sets l k x) b c ∙ written out₀ o x (omega (arith, long)),
 )
   where
     no : r ≡ length out + 1 → ⊥
