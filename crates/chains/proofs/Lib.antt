@@ -1,0 +1,4 @@
+pub mod Least
+pub mod Loops
+pub mod Search
+pub mod Ways
