@@ -30,14 +30,14 @@ returns c =
     let m = c .before .before .before .before .before .before in
     let a = m .before .before .before .before .before .before .before .args in
     search-found (a .rows .now) (a .a) (a .b) (omega arith) (omega arith) (omega arith) _ (m .before .before .before .levels .ensures)
-    _ _ (m .before .before .row-at .ensures) (m .first-met .ensures) (a .buffer .now) (c .before .before .before .before .before .if1 .taken) _ (c .before .before .walk .ensures)
+    _ _ (m .before .before .row-at .ensures) (m .first-met .ensures) (a .buffer .now) (omega arith) _ (c .before .before .walk .ensures)
 
 returns-2 : tie.Need-returns-2
 returns-2 c =
     let m = c .before in
     let a = m .before .before .before .before .before .before .before .args in
     search-none (a .rows .now) (a .a) (a .b) (omega arith) (omega arith) (omega arith) _ (m .before .before .before .levels .ensures)
-    _ _ (m .before .before .row-at .ensures) (m .first-met .ensures) (a .buffer .now) (c .if1 .left)
+    _ _ (m .before .before .row-at .ensures) (m .first-met .ensures) (a .buffer .now) (omega arith)
 
 pub find-chain-spec : {M : Type 1} → statement M
 find-chain-spec =

@@ -1,0 +1,79 @@
+// Prints the chains found in worked tables: a line for each, with the count and then the buffer up to the first byte that is as it was.
+use bits::set_bit;
+use chains::find_chain;
+use definition::Chained;
+use libc::STDOUT_FILENO;
+
+fn say(text: &[u8]) {
+    io::write_all(STDOUT_FILENO, text);
+}
+
+fn say_number(n: u64) {
+    io::print_decimal(STDOUT_FILENO, n);
+}
+
+fn wide(x: u8) -> u64 {
+    x as u64
+}
+
+// The bytes before the first 255.
+fn show(buffer: &[u8]) {
+    let mut i = 0;
+    while i < buffer.len() {
+        if buffer[i] == 255 {
+            return;
+        }
+        say(b" ");
+        say_number(wide(buffer[i]));
+        i += 1;
+    }
+}
+
+fn show_chain(rows: &[u64], a: usize, b: usize) {
+    let n = rows.len();
+    if 64 < n {
+        return;
+    }
+    if n <= a {
+        return;
+    }
+    if n <= b {
+        return;
+    }
+    let mut buffer = [255u8; 66];
+    match find_chain(rows, a, b, &mut buffer) {
+        Chained::Chain(count) => say_number(count as u64),
+        Chained::Refused(_) => say(b"none"),
+    }
+    show(&buffer);
+    say(b"\n");
+}
+
+// Each element has a pair with the next, and the last with the first: the longest chain that there is.
+fn ring() {
+    let mut rows = [0u64; 64];
+    for x in 0..64 {
+        rows[x] = set_bit(0, (x as u64 + 1) % 64);
+    }
+    show_chain(&rows, 0, 0);
+    show_chain(&rows, 1, 0);
+    show_chain(&rows, 62, 63);
+}
+
+fn main() {
+    // Facts F of document 01: B7, C10, C2, C5 are 0 to 3, and On holds (1,3), (3,2), (0,1).
+    let on = [2u64, 8, 0, 4];
+    show_chain(&on, 0, 2);
+    show_chain(&on, 2, 0);
+    show_chain(&on, 0, 0);
+    // A cycle of two, and an element beside it; a pair of an element with itself.
+    let cycle = [2u64, 1, 4];
+    show_chain(&cycle, 0, 0);
+    show_chain(&cycle, 2, 2);
+    show_chain(&cycle, 0, 2);
+    // A long way and two short ones.
+    let ways = [14u64, 4, 8, 16, 0];
+    show_chain(&ways, 0, 4);
+    show_chain(&ways, 1, 4);
+    ring();
+}
