@@ -5,3 +5,5 @@ pub mod LineLaws
 pub mod RelationLaws
 pub mod UseLaws
 pub mod FactLaws
+pub mod TakeLaws
+pub mod ReadingLaws

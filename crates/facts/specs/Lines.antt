@@ -1,7 +1,7 @@
 -- What the line reader answers, as what the definition says of the line.
 use Prim.Native.Nat.{ℕ, suc, _+_, _≤_}
 use mathlib.Core.Bool.{Bool, true, false, cond}
-use mathlib.Core.List.{List, [], _∷_}
+use mathlib.Core.List.{List, [], _∷_, map}
 use lib.ListN.{length, getD, take, drop}
 use Rattle.definition.specs.Text.{if_then_else_, Text, ascii, starts, span, is-blank}
 use Rattle.definition.specs.Limits.{WORD-BYTES, ARITY}
@@ -34,8 +34,7 @@ abbrev pub item-at : FactLine → ℕ → Item
 item-at f i = getD (f .first ∷ f .second ∷ f .third ∷ []) i (f .third)
 
 abbrev pub elements-of : Text → ℕ → List Item → List Element
-elements-of l i [] = []
-elements-of l i (x ∷ xs) = element-of l i x ∷ elements-of l i xs
+elements-of l i xs = map (element-of l i) xs
 
 abbrev pub fact-of : Text → ℕ → FactLine → Fact
 fact-of l i f = record { name = take (f .«name_len») l; at = i; elements = elements-of l i (items-of f) }

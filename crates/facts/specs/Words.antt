@@ -15,8 +15,7 @@ abbrev pub element-at : Text → ℕ → Item → Element
 element-at facts a x = record { value = take (x .len) (drop (a + start-of x) facts); quoted = x .quoted; at = a + x .place }
 
 abbrev pub elements-at : Text → ℕ → List Item → List Element
-elements-at facts a [] = []
-elements-at facts a (x ∷ xs) = element-at facts a x ∷ elements-at facts a xs
+elements-at facts a xs = map (element-at facts a) xs
 
 abbrev pub fact-at : Text → ℕ → FactLine → Fact
 fact-at facts a f = record { name = take (f .«name_len») (drop a facts); at = a; elements = elements-at facts a (items-of f) }

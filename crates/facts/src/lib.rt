@@ -9,6 +9,7 @@ ghost use Rattle.definition.specs.Facts.{word, fact, last-place};
 ghost use Rattle.facts.specs.Lines.{Within, AllWithin, NextWithin, ReadWithin, items-of, item-at, line-at, next-word, word-of, Role, says, says-elements, role, role-of};
 ghost use Rattle.facts.specs.Words.{elements-at, item-word};
 ghost use Rattle.facts.specs.Pass.{RelationUsed, UniverseUsed, FactTaken};
+ghost use Rattle.facts.specs.Reading.{line-of, Taken, LinesRead};
 use definition::Refusal;
 use parts::Entered;
 use parts::enter_part;
@@ -370,5 +371,75 @@ fn with_fact<'a>(
                 elements: e,
             }),
         },
+    }
+}
+
+// What a line makes of the lists: more of them, the dot that ends the facts, or a refusal.
+enum LineTaken {
+    More(Counts),
+    Dot,
+    Fails(Refusal),
+}
+
+// Takes in the line from a to e, which is handed to the line reader as a part of the text.
+fn take_line<'a>(
+    facts: &'a [u8],
+    query: &'a [u8],
+    relations: &mut [usize],
+    universe: &mut [usize],
+    c: Counts,
+    a: usize,
+    e: usize,
+) -> LineTaken
+    requires { ⌜ (c .relations ≤ length (now relations)) × (c .elements ≤ length (now universe)) × (a ≤ e) × (e ≤ length (now facts)) × (length (now facts) ≤ FACT-BYTES) ⌝ }
+    ensures { λ r. ⌜ Taken (now (facts .entry)) (now (query .entry)) (line-of (now (facts .entry)) a e) (now (relations .entry)) (now (relations .exit)) (now (universe .entry)) (now (universe .exit)) c r ⌝ }
+{
+    match read_line(&facts[a..e]) {
+        LineRead::End => LineTaken::Dot,
+        LineRead::Skipped => LineTaken::More(c),
+        LineRead::BadName => LineTaken::Fails(Refusal::FactName(a)),
+        LineRead::BadElement(p) => LineTaken::Fails(Refusal::FactElement(a + p)),
+        LineRead::TooMany(p) => LineTaken::Fails(Refusal::Arity(a + p)),
+        LineRead::Holds(f) => match with_fact(facts, query, relations, universe, c, a, f) {
+            FactUsed::Refused(q) => LineTaken::Fails(q),
+            FactUsed::Fits(d) => LineTaken::More(d),
+        },
+    }
+}
+
+// What the facts give: how many relations and elements the lent words hold, or why they are refused.
+pub enum FactsRead {
+    Given(Counts),
+    Refused(Refusal),
+}
+
+// "line by line, in each 3, then per element 4 and, at the first too many, 5; then 5 for another arity ..; then 6, 7"
+fn read_lines<'a>(
+    facts: &'a [u8],
+    query: &'a [u8],
+    relations: &mut [usize],
+    universe: &mut [usize],
+) -> FactsRead
+    requires { ⌜ length (now facts) ≤ FACT-BYTES ⌝ }
+    ensures { λ r. ⌜ LinesRead (now (facts .entry)) (now (query .entry)) (now (relations .entry)) (now (relations .exit)) (now (universe .entry)) (now (universe .exit)) r ⌝ }
+{
+    let mut c = Counts {
+        relations: 0,
+        elements: 0,
+    };
+    let mut a: usize = 0;
+    loop {
+        let e = run_end(facts, a, Class::NoEnd);
+        match take_line(facts, query, relations, universe, c, a, e) {
+            LineTaken::Dot => return FactsRead::Given(c),
+            LineTaken::Fails(q) => return FactsRead::Refused(q),
+            LineTaken::More(d) => {
+                c = d;
+            }
+        }
+        if e == facts.len() {
+            return FactsRead::Given(c);
+        }
+        a = e + 1;
     }
 }

@@ -58,7 +58,7 @@ abbrev pub differs : Text → Text → ℕ → ℕ → Bool
 differs facts query v w = not (same (text-of facts query v) (text-of facts query w))
 
 -- putting a number among the first words, one step to the right after the other
-take-drop : (m p : ℕ) (d : List ℕ) → take m (drop p d) ≡ drop p (take (p + m) d)
+pub take-drop : (m p : ℕ) (d : List ℕ) → take m (drop p d) ≡ drop p (take (p + m) d)
 take-drop m zero d = ap (λ (k : ℕ). take k d) (sym (zero-add m))
 take-drop m (suc p) [] = take-nil m ∙ sym (ap (drop (suc p)) (take-nil (suc p + m)))
 take-drop m (suc p) (x ∷ d) = take-drop m p d ∙ ap (λ (k : ℕ). drop (suc p) (take k (x ∷ d))) (sym (suc-add p m))

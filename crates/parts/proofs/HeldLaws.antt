@@ -77,6 +77,11 @@ note-longer facts query v ws = go (ltb (index facts query v ws) (length ws))
     go true = omega arith
     go false = rw length-append (omega arith)
 
+pub note-all-longer : (facts query : Text) (vs ws : List ℕ) → length ws ≤ length (note-all facts query vs ws)
+unfolding note-all
+note-all-longer facts query [] ws = omega arith
+note-all-longer facts query (v ∷ vs) ws = omega (arith, note-longer facts query v ws, note-all-longer facts query vs (note facts query v ws))
+
 -- words that hold a list
 pub held-first : (words : List ℕ) (n : ℕ) → n ≤ length words → Held words words (take n words) n
 held-first words n h = record { count = sym (length-take-le n words h); room = h; is = sym (take-append-drop n words) }
