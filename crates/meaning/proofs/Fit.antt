@@ -13,7 +13,7 @@ use Rattle.definition.specs.Text.{Text, same, member, some-of}
 use Rattle.definition.specs.Tables.{Tuple}
 use Rattle.definition.specs.Accept.{Accepted, elements}
 use Rattle.definition.specs.Meaning.{Environment, bind, bind-all}
-use Rattle.definition.proofs.BoolLaws.{or-cases, decide, is-true, is-false, not-both}
+use Rattle.definition.proofs.BoolLaws.{or-cases, or-left, or-right, decide, is-true, is-false, not-both}
 use Rattle.definition.proofs.TableLaws.{Below}
 use Rattle.definition.proofs.MeaningLaws.{same-eq, same-refl}
 use Rattle.eval.specs.Nodes.{Operand, element, slot, variable, any, absent, operand}
@@ -53,6 +53,23 @@ bound-here x y a env s = rw (is-true (same x y) s) refl
 bound-else : (x y : Text) (a : ℕ) (env : Environment) → T (not (same x y)) → bind x a env y ≡ env y
 unfolding bind
 bound-else x y a env n = rw (is-false (same x y) n) refl
+
+-- members of a list with one name more
+pub head-in : (x : Text) (xs : List Text) → T (member x (x ∷ xs))
+unfolding member some-of
+head-in x xs = or-left (same x x) (member x xs) (same-refl x)
+
+pub tail-in : (x y : Text) (xs : List Text) → T (member y xs) → T (member y (x ∷ xs))
+unfolding member some-of
+tail-in x y xs m = or-right (same y x) (member y xs) m
+
+pub rest-in : (x y : Text) (xs : List Text) → T (member y (x ∷ xs)) → T (not (same x y)) → T (member y xs)
+unfolding member some-of
+rest-in x y xs m n = go (or-cases (same y x) (member y xs) m)
+  where
+    go : T (same y x) ⊎ T (member y xs) → T (member y xs)
+    go (inl s) = absurd (not-both (same x y) (rw (same-eq y x s) (same-refl x)) n)
+    go (inr m) = m
 
 module _ (w : Accepted) (β : Text → ℕ) (loops : List Text) (vs : List ℕ) (naming : Naming β loops) where
   abbrev u : ℕ
@@ -107,21 +124,4 @@ module _ (w : Accepted) (β : Text → ℕ) (loops : List Text) (vs : List ℕ) 
   fits-all [] t s b l f = f
   fits-all (x ∷ xs) [] s b l f = absurd (omega arith)
   fits-all (x ∷ xs) (a ∷ t) s b l f =
-      fits-bind {xs = xs} {ys = x ∷ xs} x (β x - 64) a (s x (head x xs)) (b .0) (λ y m n. rest x y xs m n) (fits-all xs t (λ y m. s y (tail x y xs m)) (b .1) (omega arith) f)
-    where
-      head : (x : Text) (xs : List Text) → T (member x (x ∷ xs))
-      head x xs = unfold member some-of in rw (is-true (same x x) (same-refl x)) tt
-
-      tail : (x y : Text) (xs : List Text) → T (member y xs) → T (member y (x ∷ xs))
-      tail x y xs m = unfold member some-of in go (same y x) m
-        where
-          go : (b : Bool) → T (member y xs) → T (b || member y xs)
-          go true m = tt
-          go false m = m
-
-      rest : (x y : Text) (xs : List Text) → T (member y (x ∷ xs)) → T (not (same x y)) → T (member y xs)
-      rest x y xs m n = unfold member some-of in go (or-cases (same y x) (member y xs) m)
-        where
-          go : T (same y x) ⊎ T (member y xs) → T (member y xs)
-          go (inl s) = absurd (not-both (same x y) (rw (same-eq y x s) (same-refl x)) n)
-          go (inr m) = m
+      fits-bind {xs = xs} {ys = x ∷ xs} x (β x - 64) a (s x (head-in x xs)) (b .0) (λ y m n. rest-in x y xs m n) (fits-all xs t (λ y m. s y (tail-in x y xs m)) (b .1) (omega arith) f)

@@ -5,3 +5,6 @@ pub mod Fit
 pub mod Terms
 pub mod Decoded
 pub mod Means
+pub mod Distinct
+pub mod Filled
+pub mod Stored

@@ -16,7 +16,7 @@ use Rattle.definition.specs.Accept.{Accepted, elements}
 use Rattle.definition.specs.Meaning as Definition
 use Rattle.definition.specs.Meaning.{nowhere, Tables, Environment, bind, bind-all, table-of, mean, compares, compares-relations}
 use Rattle.definition.proofs.TableLaws.{Below}
-use Rattle.definition.proofs.MeaningLaws.{same-refl, other, member-keep, member-join-left, member-join-right}
+use Rattle.definition.proofs.MeaningLaws.{other, member-keep, member-join-left, member-join-right}
 use Rattle.definition.proofs.RelationLaws.{place-of}
 use Rattle.words.specs.Fields.{p-of}
 use Rattle.words.specs.Raw.{size}
@@ -27,7 +27,7 @@ use Rattle.meaning.specs.Lowered.{root, closure-count, Naming, none, mor
 use Rattle.meaning.specs.Ready.{Fits, Tabled, Held}
 use Rattle.meaning.proofs.Numbers.{some-same, all-same, all-gather}
 use Rattle.meaning.proofs.Slots.{set-all, In, Under, under, tuples-mask}
-use Rattle.meaning.proofs.Fit.{slot-low, weaken, fits-bind, slots, fits-all}
+use Rattle.meaning.proofs.Fit.{slot-low, head-in, tail-in, weaken, fits-bind, slots, fits-all}
 use Rattle.meaning.proofs.Terms.{readings-same, some-readings, truth-readings}
 use Rattle.meaning.proofs.Decoded.{truth-node, by-kind, atom-node, order-node, negation-node, conjunction-node, disjunction-node, implication-node, equivalence-node, exists-node, for-all-node, closure-node, comparison-node}
 
@@ -77,20 +77,9 @@ map-length β [] = refl
 map-length β (x ∷ xs) = ap suc (map-length β xs)
 
 slots-under : (β : Text → ℕ) (xs : List Text) → ((x : Text) → T (member x xs) → operand (β x) ≡ slot (β x - 64)) → Under 8 (map (λ x. β x - 64) xs)
-unfolding Under member some-of
+unfolding Under
 slots-under β [] s = tt
-slots-under β (x ∷ xs) s = (slot-low (β x) (β x - 64) (s x (head x)), slots-under β xs (λ y m. s y (tail (same y x) (member y xs) m)))
-  where
-    head : (x : Text) → T (member x (x ∷ xs))
-    head x = or-head (same x x) (same-refl x)
-      where
-        or-head : (b : Bool) → T b → T (b || member x xs)
-        or-head true t = tt
-        or-head false t = absurd t
-
-    tail : (a b : Bool) → T b → T (a || b)
-    tail true b t = tt
-    tail false b t = t
+slots-under β (x ∷ xs) s = (slot-low (β x) (β x - 64) (s x (head-in x xs)), slots-under β xs (λ y m. s y (tail-in x y xs m)))
 
 module _ (w : Accepted) (β : Text → ℕ) (loops : List Text) (vs : List ℕ) (naming : Naming β loops) where
   abbrev u : ℕ
@@ -126,13 +115,13 @@ module _ (w : Accepted) (β : Text → ℕ) (loops : List Text) (vs : List ℕ) 
   -- two attributes at two slots
   at-slots : (xs : List Text) (i j : ℕ) (env : Environment) (σ : List ℕ) → map (λ x. operand (β x)) xs ≡ slot i ∷ slot j ∷ [] → Fit xs env σ
       → (map env xs ≡ getD σ i 0 ∷ getD σ j 0 ∷ []) × ((getD σ i 0 < u) × (getD σ j 0 < u))
-  unfolding choices member some-of
+  unfolding choices
   at-slots [] i j env σ e f = let z : _≡_ {A = ℕ} 0 1 = cc in absurd (omega arith)
   at-slots (x ∷ []) i j env σ e f = let z : _≡_ {A = ℕ} 0 1 = cc in absurd (omega arith)
   at-slots (x ∷ y ∷ z ∷ xs) i j env σ e f = let z : _≡_ {A = ℕ} 0 1 = cc in absurd (omega arith)
   at-slots (x ∷ y ∷ []) i j env σ e f =
-      let mx : T (member x (x ∷ y ∷ [])) = first (same x x) (same-refl x) in
-      let my : T (member y (x ∷ y ∷ [])) = second (same y x) (same y y) (same-refl y) in
+      let mx : T (member x (x ∷ y ∷ [])) = head-in x (y ∷ []) in
+      let my : T (member y (x ∷ y ∷ [])) = tail-in x y (y ∷ []) (head-in y []) in
       let ox : operand (β x) ≡ slot i = cc in
       let oy : operand (β y) ≡ slot j = cc in
       let vx : getD σ i 0 ∷ [] ≡ env x ∷ [] = ap (choices u vs σ) (sym ox) ∙ f .value x mx in
@@ -140,15 +129,6 @@ module _ (w : Accepted) (β : Text → ℕ) (loops : List Text) (vs : List ℕ) 
       let ex : getD σ i 0 ≡ env x = cc in
       let ey : getD σ j 0 ≡ env y = cc in
       (ap₂ (λ (a b : ℕ). a ∷ b ∷ []) (sym ex) (sym ey), (rw ex (f .within x mx), rw ey (f .within y my)))
-    where
-      first : (a : Bool) → T a → T (a || (same x y || false))
-      first true t = tt
-      first false t = absurd t
-
-      second : (a b : Bool) → T b → T (a || (b || false))
-      second true b t = tt
-      second false true t = tt
-      second false false t = absurd t
 
   module _ (low : List ℕ) (ts : Tables) (store firsts : List ℕ) (tabled : Tabled w β loops vs ts store firsts) where
     abbrev Here : World
