@@ -1,0 +1,2 @@
+-- The attribute names of a statement and their slots.
+pub mod Slots
