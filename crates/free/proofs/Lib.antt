@@ -1,0 +1,5 @@
+-- Laws of the free attributes of words.
+pub mod Frame
+pub mod Slotted
+pub mod Places
+pub mod Trees

@@ -1,0 +1,2 @@
+-- The free attributes of the words of a statement.
+pub mod Words
