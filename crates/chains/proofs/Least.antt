@@ -13,15 +13,6 @@ use Rattle.definition.proofs.BoolLaws.{apart}
 use Rattle.bits.proofs.Laws.{bit-none, bits-ext}
 use Rattle.chains.specs.Levels.{least}
 
-pub least-ge : (n a : ℕ) (f : ℕ → Bool) → a ≤ least n a f
-unfolding least
-least-ge zero a f = omega arith
-least-ge (suc n) a f = go (f a) (least-ge n (suc a) f)
-  where
-    go : (t : Bool) → suc a ≤ least n (suc a) f → a ≤ cond t a (least n (suc a) f)
-    go true h = omega arith
-    go false h = omega arith
-
 pub least-le : (n a : ℕ) (f : ℕ → Bool) → least n a f ≤ a + n
 unfolding least
 least-le zero a f = omega arith

@@ -1,4 +1,5 @@
 pub mod Least
 pub mod Loops
+pub mod Pairs
 pub mod Search
 pub mod Ways

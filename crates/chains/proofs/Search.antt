@@ -85,7 +85,9 @@ module _ (rows : List ℕ) (a b : ℕ) (few : length rows ≤ 64) (first : a < l
         let l : length (way rows (level rows b) (suc d) a) ≡ suc d = length-way rows (level rows b) (suc d) a in
         let n : d + 2 ≡ length chain = omega arith in
         let n′ : suc (d + 1) ≡ length chain = omega arith in
-        let w : way rows (λ k. getD near k 0) (d + 1) a ≡ way rows (level rows b) (suc d) a = ap (λ (k : ℕ). way rows (λ j. getD near j 0) k a) s ∙ way-same rows (λ k. getD near k 0) (level rows b) (suc d) a (λ k m. levels .at k (omega arith)) in
+        let w : way rows (λ k. getD near k 0) (d + 1) a ≡ way rows (level rows b) (suc d) a =
+        ap (λ (k : ℕ). way rows (λ j. getD near j 0) k a) s
+        ∙ way-same rows (λ k. getD near k 0) (level rows b) (suc d) a (λ k m. levels .at k (omega arith)) in
         record {
           meets =
               subst (λ (t : Bool). searched t rows a b buffer (chained (d + 2)) buffer′) (sym (is-true (holds u (closure u rows) (a ∷ b ∷ [])) (chain-held chain right)))

@@ -96,11 +96,15 @@ module _ (rows : List ℕ) (b : ℕ) (few : length rows ≤ 64) (inside : b < le
   -- what the next level has more are the elements with a pair into it
   level-more : (k x : ℕ) → T (bit (level rows b (suc k)) x) → T (bit (level rows b k) x) ⊎ T (meets (getD rows x 0) (level rows b k))
   unfolding level before
-  level-more k x t = ⊎-elim inl (λ s. inr (subst T (word-bit (length rows) (λ x. meets (getD rows x 0) (level rows b k)) x (level-element (suc k) x t)) s)) (or-cases (bit (level rows b k) x) (bit (before rows (level rows b k)) x) (subst T (bit-or (level rows b k) (before rows (level rows b k)) x) t))
+  level-more k x t =
+      ⊎-elim inl (λ s. inr (subst T (word-bit (length rows) (λ x. meets (getD rows x 0) (level rows b k)) x (level-element (suc k) x t)) s))
+      (or-cases (bit (level rows b k) x) (bit (before rows (level rows b k)) x) (subst T (bit-or (level rows b k) (before rows (level rows b k)) x) t))
 
   level-joins : (k x : ℕ) → x < length rows → T (meets (getD rows x 0) (level rows b k)) → T (bit (level rows b (suc k)) x)
   unfolding level before
-  level-joins k x l t = subst T (sym (bit-or (level rows b k) (before rows (level rows b k)) x)) (or-right (bit (level rows b k) x) (bit (before rows (level rows b k)) x) (subst T (sym (word-bit (length rows) (λ x. meets (getD rows x 0) (level rows b k)) x l)) t))
+  level-joins k x l t =
+      subst T (sym (bit-or (level rows b k) (before rows (level rows b k)) x))
+      (or-right (bit (level rows b k) x) (bit (before rows (level rows b k)) x) (subst T (sym (word-bit (length rows) (λ x. meets (getD rows x 0) (level rows b k)) x l)) t))
 
   level-up : (j k x : ℕ) → j ≤ k → T (bit (level rows b j) x) → T (bit (level rows b k) x)
   unfolding level
@@ -130,7 +134,8 @@ module _ (rows : List ℕ) (b : ℕ) (few : length rows ≤ 64) (inside : b < le
 
   -- the next element of the way is in no lower level
   step-out : (k x j : ℕ) → Ready k x → j < k → T (not (bit (level rows b j) (after k x)))
-  step-out k x j r l = not-T (bit (level rows b j) (after k x)) (λ t. not-both (met j x) (meets-at (getD rows x 0) (level rows b j) (after k x) (step-pair k x (r .meets-it) .0) t) (r .not-before j l))
+  step-out k x j r l = not-T (bit (level rows b j) (after k x))
+      (λ t. not-both (met j x) (meets-at (getD rows x 0) (level rows b j) (after k x) (step-pair k x (r .meets-it) .0) t) (r .not-before j l))
 
   step-ready : (k x : ℕ) → Ready (suc k) x → Ready k (after (suc k) x)
   step-ready k x r =
