@@ -103,6 +103,9 @@ module _ (ws : List ℕ) (p : ℕ) where
   pub name-first : kind-in ws p ≡ 47 → drop p (seen ws) ≡ name p ∷ drop (p + 1) (seen ws)
   name-first e = at-kind 47 e (omega arith) ∙ ap (λ t. t ∷ drop (p + 1) (seen ws)) (name-terminal p)
 
+  pub name-then : (r : ℕ) → p + 1 ≡ r → kind-in ws p ≡ 47 → drop p (seen ws) ≡ name p ∷ drop r (seen ws)
+  name-then r i e = name-first e ∙ ap (λ j. name p ∷ drop j (seen ws)) i
+
   pub string-first : kind-in ws p ≡ 48 → drop p (seen ws) ≡ string p ∷ drop (p + 1) (seen ws)
   string-first e = at-kind 48 e (omega arith) ∙ ap (λ t. t ∷ drop (p + 1) (seen ws)) (string-terminal p)
 

@@ -1,0 +1,2 @@
+-- What the functions around the cycle of expressions do.
+pub mod Operators

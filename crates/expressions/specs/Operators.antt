@@ -1,0 +1,107 @@
+-- The words over operands, the closing bracket, and the attributes of a quantifier.
+use mathlib.Core.List.{List, [], _∷_, map}
+use mathlib.Core.Path.{_≡_}
+use Prim.Native.Nat.{ℕ, zero, suc, _+_, _*_, _-_, _≤_, _<_}
+use lib.Dec.{eqb}
+use lib.ListN.{length, set}
+use lib.Seq.{sets}
+use Rattle.definition.specs.Text.{if_then_else_}
+use Rattle.definition.specs.Token.{LPAREN, RPAREN, COMMA, EX, FA, TC, TCFAST}
+use Rattle.lexer.specs.Tokens.{NAME}
+use Rattle.terms.specs.declared.Answer.{Answer}
+use Rattle.terms.specs.declared.Answer.the-variants.{Read, Refused}
+use Rattle.terms.specs.Phrases.{kind-in, Wrote}
+use Rattle.words.specs.Fields.{word, ATTRIBUTE, EXISTS, FOR-ALL}
+
+-- room for the word l over an operand that ends before the word m
+pub record Space (M k m s l : ℕ) : Type 0 where
+  pub kind : k < 256
+  pub sign : s < 65536
+  pub left : 0 < m
+  pub order : m ≤ l
+  pub room : l < M
+  pub small : l ≤ 65535
+
+abbrev pub JoinRoom : ℕ → ℕ → ℕ → ℕ → Answer → Type 0
+JoinRoom M k m s (Read q l) = Space M k m s l
+JoinRoom M k m s (Refused row q) = Unit {0}
+
+abbrev pub Joined : ℕ → ℕ → ℕ → List ℕ → List ℕ → Answer → Answer → Type 0
+Joined k m s A A′ (Read q l) r = (r ≡ Read q (l + 1)) × (A′ ≡ set A l (word k (m - 1) (l - 1) s))
+Joined k m s A A′ (Refused row q) r = r ≡ Refused row q
+
+abbrev pub WrapRoom : ℕ → ℕ → Answer → Type 0
+WrapRoom M k (Read q m) = Space M k m 0 m
+WrapRoom M k (Refused row q) = Unit {0}
+
+abbrev pub Wrapped : ℕ → List ℕ → List ℕ → Answer → Answer → Type 0
+Wrapped k A A′ (Read q m) r = (r ≡ Read q (m + 1)) × (A′ ≡ set A m (word k (m - 1) 0 0))
+Wrapped k A A′ (Refused row q) r = r ≡ Refused row q
+
+-- after the closing bracket
+abbrev pub closed : List ℕ → Answer → Answer
+closed ws (Read q m) = if eqb (kind-in ws q) RPAREN then (Read (q + 1) m) else (Refused 10 q)
+closed ws (Refused row q) = Refused row q
+
+-- from p up to q: names with a comma after each, by their tokens; at q there is no further one
+pub data Names (ws : List ℕ) : ℕ → ℕ → List ℕ → Type 0 where
+  no-more : {p : ℕ} → (kind-in ws p ≡ NAME → kind-in ws (p + 1) ≡ COMMA → ⊥) → Names ws p p []
+  one-more : {p q : ℕ} {vs : List ℕ} → kind-in ws p ≡ NAME → kind-in ws (p + 1) ≡ COMMA → Names ws (p + 2) q vs → Names ws p q (p ∷ vs)
+
+abbrev pub attribute : ℕ → ℕ
+attribute v = word ATTRIBUTE v 0 0
+
+-- from p up to q: the opening bracket and the attributes
+pub record Bound (ws : List ℕ) (p n : ℕ) (A A′ : List ℕ) (q m : ℕ) : Type 0 where
+  pub names : List ℕ
+  pub opened : kind-in ws p ≡ LPAREN
+  pub name : kind-in ws (p + 1) ≡ NAME
+  pub comma : kind-in ws (p + 2) ≡ COMMA
+  pub more : Names ws (p + 1) q names
+  pub wrote : Wrote A n (map attribute names) m A′
+  pub some : n < m
+  pub paid : 2 * m + p + 1 ≡ 2 * n + q
+  pub within : q ≤ length ws
+
+-- none: no bracket, no name or no comma
+pub data Unbound (ws : List ℕ) (p : ℕ) : ℕ → Type 0 where
+  no-bracket : (kind-in ws p ≡ LPAREN → ⊥) → Unbound ws p p
+  no-name : kind-in ws p ≡ LPAREN → (kind-in ws (p + 1) ≡ NAME → ⊥) → Unbound ws p (p + 1)
+  no-comma : kind-in ws p ≡ LPAREN → kind-in ws (p + 1) ≡ NAME → (kind-in ws (p + 2) ≡ COMMA → ⊥) → Unbound ws p (p + 2)
+
+abbrev pub bound : List ℕ → ℕ → ℕ → List ℕ → List ℕ → Answer → Type 0
+bound ws p n A A′ (Read q m) = Bound ws p n A A′ q m
+bound ws p n A A′ (Refused row q) = (row ≡ 10) × (Unbound ws p q × (q ≤ length ws))
+
+pub record IsBound (ws : List ℕ) (p n : ℕ) (A A′ : List ℕ) (r : Answer) : Type 0 where
+  pub is : bound ws p n A A′ r
+
+-- the words of j quantifiers over the attributes from n on, the last first, each over the word before k
+unfoldable pub binders : ℕ → ℕ → ℕ → ℕ → List ℕ
+binders kind zero n k = []
+binders kind (suc j) n k = word kind (n + j) (k - 1) 0 ∷ binders kind j n (k + 1)
+
+pub record BindSpace (M kind n m l : ℕ) : Type 0 where
+  pub small-kind : kind < 256
+  pub order : n ≤ m
+  pub body : m < l
+  pub room : l + (m - n) ≤ M
+  pub small : l + (m - n) ≤ 65536
+
+abbrev pub BindRoom : ℕ → ℕ → ℕ → ℕ → Answer → Type 0
+BindRoom M kind n m (Read q l) = BindSpace M kind n m l
+BindRoom M kind n m (Refused row q) = Unit {0}
+
+abbrev pub Binds : ℕ → ℕ → ℕ → List ℕ → List ℕ → Answer → Answer → Type 0
+Binds kind n m A A′ (Read q l) r = (r ≡ Read q (l + (m - n))) × (A′ ≡ sets A l (binders kind (m - n) n l))
+Binds kind n m A A′ (Refused row q) r = r ≡ Refused row q
+
+-- EX and FA, and the kinds of their words
+pub data Quantifier : ℕ → ℕ → Type 0 where
+  is-ex : Quantifier EX EXISTS
+  is-fa : Quantifier FA FOR-ALL
+
+-- TC and TCFAST
+pub data IsClosure : ℕ → Type 0 where
+  is-tc : IsClosure TC
+  is-tcfast : IsClosure TCFAST
