@@ -65,6 +65,19 @@ module _ (facts query : Text) (l : Line) (rs us : List ℕ) (c : Counts) where
       let w = was-said (starts (ascii ".") (l .bytes)) (skipped (l .bytes)) (fact l) (refusal q) (sym e) in
       (w .0, λ ls fs. rw (w .1, w .2))
 
+-- a line that gives no fact
+pub no-fact : (l : Line) → skip ≡ role l → (starts (ascii ".") (l .bytes) ≡ false) × (line-facts l ≡ [])
+unfolding role by-role line-facts
+no-fact l e = let w = was-skip (starts (ascii ".") (l .bytes)) (skipped (l .bytes)) (fact l) (sym e) in (w .0, rw (w .1))
+
+pub bad-fact : (l : Line) (r p : ℕ) → says (refused r p) ≡ role l → (starts (ascii ".") (l .bytes) ≡ false) × (line-facts l ≡ [])
+unfolding role by-role line-facts
+bad-fact l r p e = let w = was-said (starts (ascii ".") (l .bytes)) (skipped (l .bytes)) (fact l) (refused r p) (sym e) in (w .0, rw (w .1, w .2))
+
+pub dot-line : (l : Line) → end ≡ role l → starts (ascii ".") (l .bytes) ≡ true
+unfolding role by-role
+dot-line l e = was-end (starts (ascii ".") (l .bytes)) (skipped (l .bytes)) (fact l) (sym e)
+
 -- a part of a line is a part of the text
 part-in : (m s n : ℕ) (d : Text) → s + n ≤ m → take n (drop s (take m d)) ≡ take n (drop s d)
 part-in m s n d h =
@@ -128,13 +141,13 @@ module _ (facts query : Text) (a e : ℕ) (h : a ≤ e) (w : e ≤ length facts)
       ∙ three (λ x. element-word (element-at facts a x)) (item-word a) (f .arity) (f .first) (f .second) (f .third) (word-same (f .first) (b .first)) (word-same (f .second) (b .second)) (word-same (f .third) (b .third))
 
   module _ (said : says (ok (fact-of (take (e - a) (drop a facts)) a f)) ≡ role (line-of facts a e)) (rs rs′ us us′ : List ℕ) (c : Counts) where
-    what : (starts (ascii ".") (take (e - a) (drop a facts)) ≡ false) × (skipped (take (e - a) (drop a facts)) ≡ false) × (fact (line-of facts a e) ≡ ok (fact-at facts a f))
+    pub what : (starts (ascii ".") (take (e - a) (drop a facts)) ≡ false) × (skipped (take (e - a) (drop a facts)) ≡ false) × (fact (line-of facts a e) ≡ ok (fact-at facts a f))
     unfolding role by-role
     what =
         let k = was-said (starts (ascii ".") (take (e - a) (drop a facts))) (skipped (take (e - a) (drop a facts))) (fact (line-of facts a e)) (ok (fact-of (take (e - a) (drop a facts)) a f)) (sym said) in
         (k .0, k .1, k .2 ∙ ap ok fact-same)
 
-    gives : line-facts (line-of facts a e) ≡ fact-at facts a f ∷ []
+    pub gives : line-facts (line-of facts a e) ≡ fact-at facts a f ∷ []
     unfolding line-facts
     gives = rw (what .1, what .2)
 

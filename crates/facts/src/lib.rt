@@ -2,14 +2,14 @@
 ghost use mathlib.Core.Path.{_≡_};
 ghost use mathlib.Core.List.{[], _∷_, _++_};
 ghost use Prim.Native.Nat.{ℕ, _+_, _-_, _≤_, _<_};
-ghost use lib.ListN.{length, getD, take, drop};
+ghost use lib.ListN.{length, getD, take, drop, replicate};
 ghost use Rattle.definition.specs.Text.{Text, starts};
 ghost use Rattle.definition.specs.Limits.{ARITY, WORD-BYTES, FACT-BYTES};
-ghost use Rattle.definition.specs.Facts.{word, fact, last-place};
+ghost use Rattle.definition.specs.Facts.{word, fact, last-place, fact-lines, bytes-read};
 ghost use Rattle.facts.specs.Lines.{Within, AllWithin, NextWithin, ReadWithin, items-of, item-at, line-at, next-word, word-of, Role, says, says-elements, role, role-of};
 ghost use Rattle.facts.specs.Words.{elements-at, item-word};
 ghost use Rattle.facts.specs.Pass.{RelationUsed, UniverseUsed, FactTaken};
-ghost use Rattle.facts.specs.Reading.{line-of, Taken, LinesRead};
+ghost use Rattle.facts.specs.Reading.{line-of, Taken, LinesRead, BytesRead, Meets};
 use definition::Refusal;
 use parts::Entered;
 use parts::enter_part;
@@ -441,5 +441,83 @@ fn read_lines<'a>(
             return FactsRead::Given(c);
         }
         a = e + 1;
+    }
+}
+
+// How many bytes are read: "nothing after that dot is read".
+fn read_end(facts: &[u8]) -> usize
+    requires { ⌜ length (now facts) ≤ FACT-BYTES ⌝ }
+    ensures { λ r. ⌜ r ≡ bytes-read (fact-lines (now (facts .entry))) ⌝ }
+{
+    let mut a: usize = 0;
+    loop {
+        let e = run_end(facts, a, Class::NoEnd);
+        if starts_with(&facts[a..e], b'.') {
+            return a;
+        }
+        if e == facts.len() {
+            return e + 1;
+        }
+        a = e + 1;
+    }
+}
+
+// What rows 1 and 2 say of the bytes.
+enum FactsBytes {
+    Right,
+    Wrong(Refusal),
+}
+
+// "Order: 1; 2 over all lines read"
+fn check_bytes(facts: &[u8]) -> FactsBytes
+    ensures { λ r. ⌜ BytesRead (now (facts .entry)) (now (facts .entry)) r ⌝ }
+{
+    if 32768 < facts.len() {
+        return FactsBytes::Wrong(Refusal::FactsTooLong);
+    }
+    let legal = run_end(facts, 0, Class::Legal);
+    if legal == facts.len() {
+        return FactsBytes::Right;
+    }
+    if legal < read_end(facts) {
+        return FactsBytes::Wrong(Refusal::FactByte(legal));
+    }
+    FactsBytes::Right
+}
+
+fn clear(words: &mut [usize])
+    ensures { λ _. ⌜ now (words .exit) ≡ replicate (length (now (words .entry))) 0 ⌝ }
+{
+    let mut i: usize = 0;
+    while i < words.len() {
+        words[i] = 0;
+        i += 1;
+    }
+}
+
+// Reads the facts (rows 1 to 7): the relations in order of first appearance and the universe in byte order, as parts in the lent words,
+// whose lengths are the limits. The query is only lent on: no part of it is in these lists yet.
+pub fn read_facts<'a>(
+    facts: &'a [u8],
+    query: &'a [u8],
+    relations: &mut [usize],
+    universe: &mut [usize],
+) -> FactsRead
+    ensures { λ r. ⌜ Meets (now (facts .entry)) (now (query .entry)) (now (relations .entry)) (now (relations .exit)) (now (universe .entry)) (now (universe .exit)) r ⌝ }
+{
+    match check_bytes(facts) {
+        FactsBytes::Wrong(q) => {
+            clear(relations);
+            clear(universe);
+            FactsRead::Refused(q)
+        }
+        FactsBytes::Right => match read_lines(facts, query, relations, universe) {
+            FactsRead::Refused(q) => {
+                clear(relations);
+                clear(universe);
+                FactsRead::Refused(q)
+            }
+            FactsRead::Given(c) => FactsRead::Given(c),
+        },
     }
 }
