@@ -3,3 +3,4 @@ pub mod Lines
 pub mod Words
 pub mod Pass
 pub mod Reading
+pub mod Again

@@ -10,6 +10,7 @@ ghost use Rattle.facts.specs.Lines.{Within, AllWithin, NextWithin, ReadW
 ghost use Rattle.facts.specs.Words.{elements-at, item-word};
 ghost use Rattle.facts.specs.Pass.{RelationUsed, UniverseUsed, FactTaken};
 ghost use Rattle.facts.specs.Reading.{line-of, Taken, LinesRead, BytesRead, Meets};
+ghost use Rattle.facts.specs.Again.{FactOfLine, NextIs};
 use definition::Refusal;
 use parts::Entered;
 use parts::enter_part;
@@ -520,4 +521,49 @@ pub fn read_facts<'a>(
             FactsRead::Given(c) => FactsRead::Given(c),
         },
     }
+}
+
+// The fact of a line that is read again, if it holds one; or the dot that ends the facts.
+enum LineFact {
+    Has(FactLine),
+    Lacks,
+    Last,
+}
+
+fn line_fact(l: &[u8]) -> LineFact
+    ensures { λ r. ⌜ FactOfLine (now (l .entry)) r ⌝ }
+{
+    match read_line(l) {
+        LineRead::Holds(f) => LineFact::Has(f),
+        LineRead::End => LineFact::Last,
+        LineRead::Skipped => LineFact::Lacks,
+        LineRead::BadName => LineFact::Lacks,
+        LineRead::BadElement(_) => LineFact::Lacks,
+        LineRead::TooMany(_) => LineFact::Lacks,
+    }
+}
+
+// The next fact of facts that are read again: where its line starts, what it holds, and where the line after it starts.
+pub enum NextFact {
+    Fact(usize, FactLine, usize),
+    NoMore,
+}
+
+// The first fact of the lines from `at` on, where a line starts or the text has ended.
+pub fn next_fact(facts: &[u8], at: usize) -> NextFact
+    requires { ⌜ length (now facts) ≤ FACT-BYTES ⌝ }
+    ensures { λ r. ⌜ NextIs (now (facts .entry)) at r ⌝ }
+{
+    let mut a = at;
+    while a < facts.len() {
+        let e = run_end(facts, a, Class::NoEnd);
+        match line_fact(&facts[a..e]) {
+            LineFact::Has(f) => return NextFact::Fact(a, f, e + 1),
+            LineFact::Last => return NextFact::NoMore,
+            LineFact::Lacks => {
+                a = e + 1;
+            }
+        }
+    }
+    NextFact::NoMore
 }
