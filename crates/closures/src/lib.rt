@@ -9,6 +9,7 @@ ghost use Rattle.eval.specs.Meaning.{world, pairs};
 ghost use Rattle.closures.specs.Filling.{fill-at, fill-word, fill-words};
 use closure::close;
 use eval::row;
+use eval::word_at;
 
 // The assignment that gives a to slot x, and 0 to the others.
 fn only(x: u8, a: u8) -> [u8; 8]
@@ -61,12 +62,6 @@ pub fn fill_closure(
     fill_pairs(nodes, store, firsts, vars, u, n, o, x, y);
     let e = o + u as usize;
     close(&mut store[o..e]);
-}
-
-fn word_at(s: &[u64], i: usize) -> u64
-    ensures { λ r. ⌜ r ≡ getD (now (s .entry)) i 0 ⌝ }
-{
-    if i < s.len() { s[i] } else { 0 }
 }
 
 // The place of the child c of place k: past the end, where no node stands, if it is not lower.

@@ -9,7 +9,7 @@ use Rattle.closures.proofs.fill_word.Reads as reads
 use Rattle.closures.proofs.fill_word.Lts as lts
 use Rattle.closures.proofs.child_place.Reads as child-place-reads
 use Rattle.closures.proofs.fill_closure.Reads as fill-closure-reads
-use Rattle.closures.proofs.word_at.Reads as word-at-reads
+use Rattle.eval.proofs.word_at.Reads as word-at-reads
 
 -- src/lib.rt:65:9
 word-at-requires : tie.Need-word-at-requires
