@@ -127,7 +127,7 @@ module _ (w : Accepted) (β : Text → ℕ) (loops : List Text) (vs : List ℕ) 
     abbrev pub end : ℕ → ℕ
     end c = base + c * u
 
-    end-less : (c d b : ℕ) → c ≤ d → end d ≤ b → end c ≤ b
+    pub end-less : (c d b : ℕ) → c ≤ d → end d ≤ b → end c ≤ b
     end-less c d b h l = omega (arith, mul-le-mul-right u h)
 
     end-suc : (c : ℕ) → end (suc c) ≡ end c + u
@@ -313,8 +313,8 @@ module _ (w : Accepted) (β : Text → ℕ) (loops : List Text) (vs : List ℕ) 
           (filled y (n + size x) (c + closure-count x) (fill-of x n s) (l .1 .0) (room-after x c s (fill-of x n s) f room) (base-after x c s (fill-of x n s) f q))
 
       -- and then its node means what it means, where at least the words before b are lent
-      pub filled-means : (e : Expression) (n c : ℕ) (s t : List ℕ) (b : ℕ) (env : Environment) (σ : List ℕ) → Low e n c → Filled s t e c → take base s ≡ p → end (c + closure-count e) ≤ b
+      pub held-means : (e : Expression) (n c : ℕ) (t : List ℕ) (b : ℕ) (env : Environment) (σ : List ℕ) → Low e n c → Kept t e c → take base t ≡ p → end (c + closure-count e) ≤ b
           → Fits w β loops vs (free (w .variables) e) env σ → meaning (world (take b t) firsts vs u) (node-at low (root e n)) σ ≡ mean w ts env e
-      filled-means e n c s t b env σ l f q h k =
-          means w β loops vs naming low ts (take b t) firsts (tables (take b t) (take-take base b t (omega arith) ∙ base-after e c s t f q)) e n c env σ l
-          (held-kept e n c t (take b t) b l h (take-take b b t (le-refl b)) (f .held)) k
+      held-means e n c t b env σ l h q k f =
+          means w β loops vs naming low ts (take b t) firsts (tables (take b t) (take-take base b t (omega arith) ∙ q)) e n c env σ l
+          (held-kept e n c t (take b t) b l k (take-take b b t (le-refl b)) h) f

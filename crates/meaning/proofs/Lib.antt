@@ -8,3 +8,4 @@ pub mod Means
 pub mod Distinct
 pub mod Filled
 pub mod Stored
+pub mod Statements

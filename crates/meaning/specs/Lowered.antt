@@ -27,6 +27,12 @@ root e n = n + size e - 1
 abbrev pub closure-count : Expression → ℕ
 closure-count e = length (closures e)
 
+-- an expression of a statement, where its words begin, and how many closures the statement has before it
+pub record Placed : Type 0 where
+  pub expression : Expression
+  pub place : ℕ
+  pub before : ℕ
+
 -- how a statement's names are lowered: β is the operand byte of a name, `loops` are the variables of the open FORs
 pub record Naming (β : Text → ℕ) (loops : List Text) : Type 0 where
   -- two names have two slots
@@ -119,3 +125,10 @@ module _ (w : Accepted) (β : Text → ℕ) (loops : List Text) where
     Lowered (closure-of e) n c = Lowered e n c × Closure (n + size e) (root e n) (c + closure-count e) e
     Lowered (compare-relations g a b) n c =
         Lowered a n c × (Lowered b (n + size a) (c + closure-count a) × Comparison (n + size a + size b) (root a n) (root b (n + size a)) g (join (free (w .variables) a) (free (w .variables) b)))
+
+    -- m words of a statement from n on, c of its closures before them: words that are no closures, and expressions
+    pub data Sequence : ℕ → ℕ → ℕ → List Placed → Type 0 where
+      none : {n c : ℕ} → Sequence n 0 c []
+      leaves : {n c m : ℕ} {es : List Placed} (k : ℕ) → Leaves n k → Sequence (n + k) m c es → Sequence n (k + m) c es
+      expression : {n c m : ℕ} {es : List Placed} (e : Expression) → Lowered e n c → Sequence (n + size e) m (c + closure-count e) es
+          → Sequence n (size e + m) c (record { expression = e; place = n; before = c } ∷ es)

@@ -14,7 +14,7 @@ use Rattle.definition.proofs.TableLaws.{Below}
 use Rattle.definition.proofs.RelationLaws.{place-of, no-relation}
 use Rattle.eval.specs.Nodes.{operand}
 use Rattle.eval.specs.Meaning.{World, world, table-at, closure-at, choices}
-use Rattle.meaning.specs.Lowered.{closure-count}
+use Rattle.meaning.specs.Lowered.{closure-count, Placed}
 
 module _ (w : Accepted) (β : Text → ℕ) (loops : List Text) (vs : List ℕ) where
   -- the variables of the open FORs are elements, by depth
@@ -60,3 +60,8 @@ module _ (w : Accepted) (β : Text → ℕ) (loops : List Text) (vs : List ℕ) 
     Held (for-all x e) c = Held e c
     Held (closure-of e) c = Held e c × Closes (c + closure-count e) e
     Held (compare-relations g a b) c = Held a c × Held b (c + closure-count a)
+
+    -- and so for all expressions of a statement
+    unfoldable pub Held-all : List Placed → Type 0
+    Held-all [] = Unit {0}
+    Held-all (e ∷ es) = Held (e .expression) (e .before) × Held-all es
