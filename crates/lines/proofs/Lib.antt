@@ -1,4 +1,3 @@
 -- Bytes put one after the other; the line of a tuple, part by part, and as the definition says it.
-pub mod Parts
 pub mod Puts
 pub mod LineLaws

@@ -13,7 +13,7 @@ use Rattle.definition.specs.Assignment.{element-text}
 use Rattle.definition.specs.Print.{spaced, is-quoted, shown}
 use Rattle.definition.proofs.TableLaws.{Below}
 use Rattle.tuples.proofs.Turns.{rest-cons, rest-none}
-use Rattle.lines.specs.Packed.{tag-of}
+use Rattle.parts.specs.Packed.{tag-of}
 use Rattle.lines.specs.Lines.{Texts, element-at, shown-at, after, line-of}
 
 module _ (T : Texts) where

@@ -1,4 +1,3 @@
--- Parts of two texts, the line of a tuple, and bytes put to a buffer.
-pub mod Packed
+-- The line of a tuple, and bytes put to a buffer.
 pub mod Lines
 pub mod Put

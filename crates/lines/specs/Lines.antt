@@ -6,7 +6,7 @@ use lib.ListN.{getD}
 use Rattle.definition.specs.Text.{if_then_else_, Text}
 use Rattle.definition.specs.Tables.{Tuple}
 use Rattle.definition.specs.Print.{spaced}
-use Rattle.lines.specs.Packed.{tag-of, text-of}
+use Rattle.parts.specs.Packed.{tag-of, text-of}
 
 -- the two texts, and for each element the part of one of them that it is, with tag 1 if some fact quoted it
 pub record Texts : Type 0 where

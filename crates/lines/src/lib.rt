@@ -4,9 +4,9 @@ ghost use mathlib.Core.List.{[], _∷_, _++_};
 ghost use Prim.Native.Nat.{_+_, _-_, _≤_};
 ghost use lib.ListN.{length, getD, take, drop};
 ghost use Rattle.definition.specs.Text.{gather};
-ghost use Rattle.lines.specs.Packed.{text-of};
 ghost use Rattle.lines.specs.Lines.{texts, element-at, shown-at, after, line-of};
 ghost use Rattle.lines.specs.Put.{Put};
+use parts::text_of;
 
 // Puts a byte.
 pub fn put(out: &mut [u8], at: usize, b: u8, write: bool) -> usize
@@ -34,32 +34,6 @@ pub fn put_text(out: &mut [u8], at: usize, s: &[u8], write: bool) -> usize
         p = put(out, p, s[i], write);
     }
     p
-}
-
-// The n bytes of s from offset on, or as many as there are.
-pub fn part(s: &[u8], offset: usize, n: usize) -> &[u8]
-    ensures { λ r. ⌜ now r ≡ take n (drop offset (now (s .entry))) ⌝ }
-{
-    let len = s.len();
-    if len <= offset {
-        return &s[..0];
-    }
-    if len - offset < n {
-        return &s[offset..len];
-    }
-    &s[offset..offset + n]
-}
-
-// The text of the number w.
-fn text_of<'a>(facts: &'a [u8], query: &'a [u8], w: usize) -> &'a [u8]
-    ensures { λ r. ⌜ now r ≡ text-of (now (facts .entry)) (now (query .entry)) w ⌝ }
-{
-    let offset = w / 512;
-    let n = w / 8 % 64;
-    if w / 4 % 2 == 0 {
-        return part(facts, offset, n);
-    }
-    part(query, offset, n)
 }
 
 fn place_at(places: &[usize], a: usize) -> usize

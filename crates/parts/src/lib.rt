@@ -19,7 +19,7 @@ pub fn packed(text: usize, offset: usize, len: usize, tag: usize) -> usize
 }
 
 // The n bytes of s from offset on, or as many as there are.
-fn part(s: &[u8], offset: usize, n: usize) -> &[u8]
+pub fn part(s: &[u8], offset: usize, n: usize) -> &[u8]
     ensures { λ r. ⌜ now r ≡ take n (drop offset (now (s .entry))) ⌝ }
 {
     let len = s.len();

@@ -1,4 +1,5 @@
--- Passes over numbers; what each word of a PRINT prints; lowered words print what the definition says.
+-- Passes over numbers; what each word of a PRINT prints; a tuple's elements in slots; lowered words print what the definition says.
 pub mod Passes
 pub mod Words
+pub mod InSlots
 pub mod Texts

@@ -1,20 +1,13 @@
-use Prim.Native.Nat.{ℕ, _+_, _-_, _%_, _<_, _≤_}
-use mathlib.Core.Path.{_≡_, refl, sym, ap, ap₂, _∙_, subst}
-use mathlib.Core.Bool.{Bool, true, false, cond}
-use mathlib.Core.List.{List, [], _∷_, _++_}
-use native.Mathlib.Omega.{arith}
-use native.Mathlib.Numerals.{add-one}
-use lib.ListN.{length, getD, set, take, drop}
+use Prim.Native.Nat.{_+_}
+use mathlib.Core.Path.{sym, subst}
+use mathlib.Core.Bool.{Bool, true, false}
+use mathlib.Core.List.{[], _∷_}
+use lib.ListN.{set}
 use borrow.Author.Needs.{needs}
-use Rattle.definition.specs.Text.{gather}
 use Rattle.lines.specs.Put.{Put}
-use Rattle.lines.specs.Lines.{Texts, texts, element-at, shown-at, after, line-of}
-use Rattle.lines.proofs.Puts.{put-length, put-within, put-none, put-in, put-past, put-then}
-use Rattle.lines.proofs.LineLaws.{line-label, line-bare, line-empty, after-cons, after-none}
+use Rattle.lines.proofs.Puts.{put-in, put-past}
 use Rattle.lines.proofs.put.Statement.{statement}
 use Rattle.lines.proofs.put.Tie as tie
-use Rattle.lines.proofs.put.Reads as reads
-use Rattle.lines.proofs.put.Lts as lts
 
 add-result : tie.Need-add-result
 add-result c = search needs

@@ -1,22 +1,15 @@
-use Prim.Native.Nat.{ℕ, _+_, _-_, _%_, _<_, _≤_}
-use mathlib.Core.Path.{_≡_, refl, sym, ap, ap₂, _∙_, subst}
-use mathlib.Core.Bool.{Bool, true, false, cond}
+use Prim.Native.Nat.{ℕ, _+_, _-_, _≤_}
+use mathlib.Core.Path.{_≡_, refl, sym, ap, _∙_, subst}
 use mathlib.Core.List.{List, [], _∷_, _++_}
 use native.Mathlib.Omega.{arith}
 use native.Mathlib.Numerals.{add-one}
-use lib.ListN.{length, getD, set, take, drop}
+use lib.ListN.{length, getD, take}
 use borrow.Author.Needs.{needs}
-use Rattle.definition.specs.Text.{gather}
 use Rattle.lines.specs.Put.{Put}
-use Rattle.lines.specs.Lines.{Texts, texts, element-at, shown-at, after, line-of}
-use Rattle.lines.proofs.Puts.{put-length, put-within, put-none, put-in, put-past, put-then}
-use Rattle.lines.proofs.LineLaws.{line-label, line-bare, line-empty, after-cons, after-none}
+use Rattle.lines.proofs.Puts.{put-length, put-none, put-then}
 use lib.Seq.{take-all, take-suc}
 use Rattle.lines.proofs.put_text.Statement.{statement}
 use Rattle.lines.proofs.put_text.Tie as tie
-use Rattle.lines.proofs.put_text.Reads as reads
-use Rattle.lines.proofs.put_text.Lts as lts
-use Rattle.lines.proofs.put.Reads as put-reads
 
 abbrev Inv-loop : tie.InvT-loop
 Inv-loop out₀ at s write p₀ n i₀ out p i = (i ≤ n) × (n ≡ length s) × (length out ≡ length out₀) × Put write out₀ at (take i s) p out
