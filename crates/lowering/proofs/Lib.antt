@@ -1,0 +1,2 @@
+-- Laws of lowering.
+pub mod Filling

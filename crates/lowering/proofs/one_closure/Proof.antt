@@ -1,0 +1,17 @@
+use mathlib.Core.Path.{refl}
+use native.Mathlib.Omega.{arith}
+use borrow.Author.Tests.{eq-eqb, ne-eqb}
+use Rattle.slots.specs.Slots.{one-closure}
+use Rattle.lowering.proofs.one_closure.Statement.{statement}
+use Rattle.lowering.proofs.one_closure.Tie as tie
+
+returns : tie.Need-returns
+unfolding one-closure
+returns c = (rw (eq-eqb _ _ (c .if1 .taken)) refl, omega arith)
+
+returns-2 : tie.Need-returns-2
+unfolding one-closure
+returns-2 c = (rw (ne-eqb _ _ (c .if1 .left)) refl, omega arith)
+
+pub one-closure-spec : {M : Type 1} → statement M
+one-closure-spec = tie.close (tie.spec returns returns-2)
