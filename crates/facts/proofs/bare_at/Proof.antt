@@ -12,7 +12,7 @@ sub-if1 : tie.Need-sub-if1
 sub-if1 c = search needs
 
 returns : tie.Need-returns
-returns c = (bare-long-at _ _ _ (c .before .before .before .pre .0) (c .before .before .before .pre .1) (c .before .run-end .ensures .0) (c .if1 .taken), omega arith)
+returns c = (bare-long-at _ _ _ (c .before .before .before .pre .0) (c .before .before .before .pre .1) (c .before .run-end .ensures .0) (omega (arith, c .if1 .taken)), omega arith)
 
 run-end-requires-2 : tie.Need-run-end-requires-2
 run-end-requires-2 c κs = search needs
@@ -27,7 +27,7 @@ sub-t8 : tie.Need-sub-t8
 sub-t8 c = search needs
 
 returns-3 : tie.Need-returns-3
-returns-3 c = (bare-good-at _ _ _ (c .before .before .before .before .before .pre .0) (c .before .before .before .before .before .pre .1) (c .before .before .before .run-end .ensures .0) _ (c .before .run-end2 .ensures .0) (c .before .before .if1 .left) (c .if2 .left), (record { place = omega arith; end = omega arith; len = c .before .before .if1 .left }, omega arith))
+returns-3 c = (bare-good-at _ _ _ (c .before .before .before .before .before .pre .0) (c .before .before .before .before .before .pre .1) (c .before .before .before .run-end .ensures .0) _ (c .before .run-end2 .ensures .0) (omega (arith, c .before .before .if1 .left)) (c .if2 .left), (record { place = omega arith; end = omega arith; len = omega (arith, c .before .before .if1 .left) }, omega arith))
 
 pub bare-at-spec : {M : Type 1} → statement M
 bare-at-spec =
