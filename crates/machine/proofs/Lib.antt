@@ -6,3 +6,4 @@ pub mod Runs
 pub mod Decoding
 pub mod Stops
 pub mod Quiets
+pub mod Acting

@@ -5,3 +5,4 @@ pub mod Actions
 pub mod Placed
 pub mod Turns
 pub mod Standing
+pub mod Bound

@@ -24,7 +24,7 @@ module _ (c : tie.After-seek) where
 
   found : c .seek .result ≡ next-at (entry .args .u) (entry .args .sets .now) (entry .args .cursors .now) depth
   unfolding next-at left-at
-  found = c .seek .ensures
+  found = c .seek .ensures .0
 
 -- an element is left
 returns : tie.Need-returns

@@ -18,13 +18,13 @@ abbrev μ-loop : tie.MeasureT-loop
 μ-loop s from u a₀ a = u - a
 
 returns : tie.Need-returns Inv-loop μ-loop
-returns c = search-hit _ _ _ _ (c .before .before .before .loop .inv) (omega arith) (sym (c .before .test-bit .ensures) ∙ c .if1 .taken)
+returns c = (search-hit _ _ _ _ (c .before .before .before .loop .inv) (omega arith) (sym (c .before .test-bit .ensures) ∙ c .if1 .taken), omega arith)
 
 loop-again : tie.Need-loop-again Inv-loop μ-loop
 loop-again c = search-on _ _ _ _ (c .before .before .before .loop .inv) (omega arith) (sym (c .before .test-bit .ensures) ∙ c .if1 .left)
 
 returns-2 : tie.Need-returns-2 Inv-loop μ-loop
-returns-2 c = search-none _ _ _ _ (c .before .loop .inv) (omega arith)
+returns-2 c = (search-none _ _ _ _ (c .before .loop .inv) (omega arith), omega arith)
 
 pub seek-spec : {M : Type 1} → statement M
 seek-spec =
