@@ -8,8 +8,11 @@ use Rattle.definition.specs.Tables.{word}
 use Rattle.eval.specs.Nodes.{node-at, c-of}
 use Rattle.eval.specs.Meaning.{world, meaning}
 use Rattle.closures.specs.Filling.{fill-words}
+use Rattle.lines.specs.Lines.{Texts}
+use Rattle.lines.specs.Put.{Printed}
+use Rattle.prints.specs.Items.{printed}
 use Rattle.actions.specs.Parts.{start, clear-words}
-use Rattle.actions.specs.Doing.{filled, cleared, left-by, test-by, range-by, assign-by-word, assign-by}
+use Rattle.actions.specs.Doing.{filled, cleared, left-by, test-by, range-by, print-by, assign-by-word, assign-by}
 
 module _ (words firsts : List ℕ) (u : ℕ) (vs s : List ℕ) (at lo : ℕ) (e : lo ≡ start words at) where
   clears : (t t′ : List ℕ) → t′ ≡ clear-words firsts u words (at - lo) lo t → t′ ≡ cleared words firsts u t at
@@ -37,6 +40,11 @@ module _ (words firsts : List ℕ) (u : ℕ) (vs s : List ℕ) (at lo : ℕ) (e 
       ranges r w j k =
           k ∙ ap₂ (λ x m. word u 0 (λ v. meaning (world x firsts vs u) (node-at words m) (set (replicate 8 0) (c-of w % 8) v))) fills i
           ∙ ap (λ y. word u 0 (λ v. meaning (world (filled words firsts u vs s at) firsts vs u) (node-at words (at - 1)) (set (replicate 8 0) (c-of y % 8) v))) j
+
+    pub prints : (T : Texts) (out : List ℕ) (from r : ℕ) (out′ : List ℕ) → Printed out from (printed (world t firsts vs u) words T at) r out′
+        → Printed out from (print-by words firsts u T vs s at) r out′
+    unfolding print-by
+    prints T out from r out′ k = rw (← fills) k
 
     pub assigns : (scr w : ℕ) (t′ t″ : List ℕ) → w ≡ getD words at 0 → t′ ≡ assign-by-word words firsts u scr w at vs t
         → t″ ≡ clear-words firsts u words (at - lo) lo t′ → t″ ≡ assign-by words firsts u scr vs s at

@@ -6,12 +6,15 @@ use mathlib.Core.List.{List, [], _∷_}
 use lib.Dec.{leb}
 use lib.ListN.{length, getD, set, take, replicate}
 use lib.Seq.{sets}
+use Rattle.definition.specs.Text.{Text}
 use Rattle.definition.specs.Tables.{word, table, table-words}
 use Rattle.words.specs.Fields.{p-of}
 use Rattle.eval.specs.Nodes.{node-at, a-of, b-of, c-of, d-of, n-of}
 use Rattle.eval.specs.Meaning.{world, meaning}
 use Rattle.closures.specs.Filling.{fill-words}
 use Rattle.assignment.specs.New.{new-at}
+use Rattle.lines.specs.Lines.{Texts}
+use Rattle.prints.specs.Items.{printed}
 use Rattle.actions.specs.Parts.{start, clear-words}
 
 -- the columns of an assignment's left-hand side
@@ -38,6 +41,10 @@ module _ (words firsts : List ℕ) (u : ℕ) where
   unfoldable pub range-by : List ℕ → List ℕ → ℕ → ℕ
   range-by vs s at =
       word u 0 (λ v. meaning (world (filled vs s at) firsts vs u) (node-at words (at - 1)) (set (replicate 8 0) (c-of (getD words at 0) % 8) v))
+
+  -- the bytes of a PRINT
+  unfoldable pub print-by : Texts → List ℕ → List ℕ → ℕ → Text
+  print-by T vs s at = printed (world (filled vs s at) firsts vs u) words T at
 
   module _ (scr : ℕ) where
     -- the word at a place gives the relation, the columns and their number; the new table is made from word scr on

@@ -6,11 +6,14 @@ ghost use lib.Dec.{leb};
 ghost use lib.ListN.{length, getD};
 ghost use Rattle.words.specs.Fields.{kind-of};
 ghost use Rattle.actions.specs.Parts.{is-statement, start, clear-word, clear-words};
-ghost use Rattle.actions.specs.Doing.{left-by, test-by, range-by, columns-of, assign-by-word, assign-by};
+ghost use Rattle.lines.specs.Lines.{texts};
+ghost use Rattle.lines.specs.Put.{Printed};
+ghost use Rattle.actions.specs.Doing.{left-by, test-by, range-by, print-by, columns-of, assign-by-word, assign-by};
 use assignment::assign;
 use closures::fill_closures;
 use eval::eval;
 use eval::row;
+use prints::print;
 use scratch::clear;
 use tuples::table_words;
 
@@ -211,4 +214,42 @@ pub fn assign_at(
     fill_closures(words, store, firsts, vars, u, lo, at);
     assign_word(words, store, firsts, vars, u, scr, word_at(words, at), at);
     clear_closures(words, store, firsts, u, lo, at);
+}
+
+// The PRINT at a place: writes its bytes from place `from` on where they fit, and nothing where not; the place past them, or one past
+// the buffer's end.
+pub fn print_at<'a>(
+    words: &[u64],
+    store: &mut [u64],
+    firsts: &[u64],
+    vars: &[u8],
+    u: u8,
+    facts: &'a [u8],
+    query: &'a [u8],
+    places: &[usize],
+    at: usize,
+    out: &mut [u8],
+    from: usize,
+) -> usize
+    requires { ⌜ u < 65 ⌝ }
+    ensures { λ r. ⌜ Printed (now (out .entry)) from (print-by (now (words .entry)) (now (firsts .entry)) u (texts (now (facts .entry)) (now (query .entry)) (now (places .entry))) (now (vars .entry)) (now (store .entry)) at) r (now (out .exit)) ⌝ }
+    ensures { λ _. ⌜ now (store .exit) ≡ left-by (now (words .entry)) (now (firsts .entry)) u (now (vars .entry)) (now (store .entry)) at ⌝ }
+{
+    let lo = start_of(words, at);
+    fill_closures(words, store, firsts, vars, u, lo, at);
+    let r = print(
+        words,
+        store,
+        firsts,
+        vars,
+        u,
+        facts,
+        query,
+        places,
+        at,
+        out,
+        from,
+    );
+    clear_closures(words, store, firsts, u, lo, at);
+    r
 }

@@ -1,19 +1,23 @@
 -- One turn, as the code does it by the kind of the word.
-use Prim.Native.Nat.{ℕ, suc, _+_, _-_, _<_}
+use Prim.Native.Nat.{ℕ, suc, _+_, _-_, _<_, _≤_}
+use native.Mathlib.Omega.{arith}
 use native.Mathlib.Numerals.{add-one}
 use mathlib.Core.Path.{_≡_, refl, sym, ap, _∙_}
 use mathlib.Core.Bool.{Bool, true, false, cond}
 use mathlib.Core.List.{List}
 use lib.Dec.{eqb, ltb}
 use lib.ListN.{length, getD, set}
-use borrow.Author.Tests.{eqb-true, eqb-false, ltb-true, ltb-false}
+use lib.Seq.{sets}
+use borrow.Author.Tests.{ne-eqb, eqb-true, eqb-false, ltb-true, ltb-false, lt-ltb, le-ltb, lt-leb, le-leb}
 use Rattle.words.specs.Fields as Fields
-use Rattle.words.specs.Fields.{kind-of, q-of}
+use Rattle.words.specs.Fields.{kind-of, p-of, q-of}
 use Rattle.definition.specs.Text.{Text}
-use Rattle.machine.specs.Instructions.{Instr, END, PASS, ASSIGN, PRINT, TEST, AGAIN, RANGE, NEXT, JUMP, instr}
+use Rattle.machine.specs.Instructions.{Instr, END, PASS, ASSIGN, PRINT, TEST, AGAIN, RANGE, NEXT, JUMP, decode, instr}
 use Rattle.machine.specs.Actions.{Actions}
-use Rattle.machine.specs.Turns.{Held, held, next-at, turn-by, turn}
-use Rattle.machine.proofs.Decoding.{is-jump, is-back, is-pass}
+use Rattle.machine.specs.Turns.{Held, held, next-at, overflows, goes-after, turn-by, turn, is-full}
+use Rattle.lines.specs.Put.{Printed}
+use Rattle.machine.specs.Bound.{Turned}
+use Rattle.machine.proofs.Decoding.{instr-decoded, is-print, is-jump, is-back, is-pass}
 
 -- a kind of no step but a PRINT, as the code's match tells it
 abbrev pub Steps : ℕ → Type 0
@@ -69,3 +73,85 @@ by-yes e h y n = ap (λ b. cond b y n) (sym (sym e ∙ h))
 
 pub by-no : {r t : Bool} → r ≡ t → r ≡ false → (y n : ℕ) → n ≡ cond t y n
 by-no e h y n = ap (λ b. cond b y n) (sym (sym e ∙ h))
+
+-- A PRINT, and that no other word's step overflows.
+abbrev is-printing : Instr → Bool
+is-printing END = false
+is-printing PASS = false
+is-printing ASSIGN = false
+is-printing PRINT = true
+is-printing (TEST n) = false
+is-printing (AGAIN n) = false
+is-printing (RANGE d n) = false
+is-printing (NEXT d n) = false
+is-printing (JUMP n) = false
+
+record Silent (i : Instr) : Type 0 where
+  silent : is-printing i ≡ false
+
+either : (b : Bool) {x y : Instr} → Silent x → Silent y → Silent (cond b x y)
+either true p q = p
+either false p q = q
+
+pass : Silent PASS
+pass = record { silent = refl }
+
+silent-word : (at k p q : ℕ) → (k ≡ Fields.PRINT → ⊥) → Silent (decode at k p q)
+unfolding decode
+silent-word at k p q h =
+    rw (ne-eqb k Fields.PRINT h) (either (eqb k Fields.ASSIGN) (record { silent = refl })
+    (either (eqb k Fields.TEST) (record { silent = refl })
+    (either (eqb k Fields.AGAIN) (record { silent = refl })
+    (either (eqb k Fields.RANGE) (record { silent = refl })
+    (either (eqb k Fields.NEXT) (record { silent = refl })
+    (either (eqb k Fields.JUMP) (either (ltb at q) (record { silent = refl }) pass) pass))))))
+
+silent-fits : (A : Actions) (u : ℕ) (i : Instr) (c : Held) → is-printing i ≡ false → false ≡ overflows A u i c
+silent-fits A u END c e = refl
+silent-fits A u PASS c e = refl
+silent-fits A u ASSIGN c e = refl
+silent-fits A u PRINT c e = let z : _≡_ {A = ℕ} 0 1 = cc in absurd (omega arith)
+silent-fits A u (TEST n) c e = refl
+silent-fits A u (AGAIN n) c e = refl
+silent-fits A u (RANGE d n) c e = refl
+silent-fits A u (NEXT d n) c e = refl
+silent-fits A u (JUMP n) c e = refl
+
+module _ (A : Actions) (u : ℕ) (code : List ℕ) (pc used : ℕ) (s : List ℕ) (buffer : Text) (ss cs vs : List ℕ) (h : pc < length code) where
+  abbrev from : Held
+  from = held pc used s buffer ss cs vs
+
+  pub act-step : (kind-of (getD code pc 0) ≡ Fields.PRINT → ⊥) → (c′ : Held) → c′ ≡ turn A u code from → Turned A u code from false c′
+  unfolding is-full
+  act-step n c′ e =
+      let k = silent-word pc (kind-of (getD code pc 0)) (p-of (getD code pc 0)) (q-of (getD code pc 0)) n in
+      record { fits = silent-fits A u (instr code pc) from (ap is-printing (instr-decoded code pc h) ∙ k .silent); same = e }
+
+  module _ (k : kind-of (getD code pc 0) ≡ Fields.PRINT) {r : ℕ} {out t : List ℕ} (p : Printed buffer used (A .prints vs s pc) r out) (q : t ≡ A .leaves vs s pc) where
+    abbrev x : Text
+    x = A .prints vs s pc
+
+    is : instr code pc ≡ PRINT
+    is = is-print code pc h k
+
+    whether : (b : Bool) → ltb (length buffer) (used + length x) ≡ b → b ≡ is-full A u code from
+    unfolding is-full
+    whether b e = sym (ap (λ i. overflows A u i from) is ∙ e)
+
+    turns : (b : Bool) → ltb (length buffer) (used + length x) ≡ b
+        → cond b (goes-after A u pc pc from) (held (suc pc) (used + length x) (A .leaves vs s pc) (sets buffer used x) ss cs vs) ≡ turn A u code from
+    unfolding turn
+    turns b e = sym (ap (λ i. turn-by A u i from) is ∙ rw e refl)
+
+    pub act-full : length buffer < r → Turned A u code from true (held pc used t out ss cs vs)
+    act-full l =
+        let o : length buffer < used + length x = omega (arith, p .end) in
+        let b : out ≡ buffer = p .bytes ∙ rw (lt-leb (used + length x) (length buffer) o) refl in
+        record { fits = whether true (lt-ltb _ _ o); same = rw (q, b) (turns true (lt-ltb _ _ o)) }
+
+    pub act-print : r ≤ length buffer → Turned A u code from false (held (pc + 1) r t out ss cs vs)
+    act-print l =
+        let o : used + length x ≤ length buffer = omega (arith, p .end) in
+        let e : r ≡ used + length x = omega (arith, p .end) in
+        let b : out ≡ sets buffer used x = p .bytes ∙ rw (le-leb (used + length x) (length buffer) o) refl in
+        record { fits = whether false (le-ltb _ _ o); same = rw (q, b, e, add-one) (turns false (le-ltb _ _ o)) }

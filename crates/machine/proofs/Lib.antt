@@ -7,3 +7,4 @@ pub mod Decoding
 pub mod Stops
 pub mod Quiets
 pub mod Acting
+pub mod Goings

@@ -5,7 +5,7 @@ use mathlib.Core.Path.{_≡_, refl, sym, ap, subst, _∙_}
 use mathlib.Core.Bool.{Bool, true, false, cond}
 use mathlib.Core.List.{List, [], _∷_, _++_, map}
 use lib.Dec.{ltb}
-use lib.ListN.{length, getD, set, take, drop, length-append, length-drop}
+use lib.ListN.{length, getD, set, take, drop, length-append, length-drop, length-set}
 use lib.Seq.{sets, sets-eq, take-append-seam, drop-append-add, drop-drop}
 use borrow.Author.Tests.{ltb-true, ltb-false}
 use Rattle.definition.specs.Text.{Text}
@@ -25,16 +25,10 @@ use Rattle.machine.specs.Instructions.{Instr, END, PASS, ASSIGN, PRINT, 
 use Rattle.machine.specs.Actions.{Actions, Handed, Leaves, Tests, Ranges, Assigns, Prints, members, single, scope-environment}
 use Rattle.machine.specs.Placed.{Placed, Holds-program}
 use Rattle.machine.specs.Turns.{Held, held, left-at, next-at, Move, passes, jumps, leaves, Moves, here, on, rests, Settled, bytes, overflows, goes, goes-after, printed as printed-by, turn-by}
-use Rattle.machine.specs.Standing.{Frame, scope-of, environment, around, Within, Shown, left, AtI, At, at-end as AtI·end, Run}
+use Rattle.machine.specs.Standing.{Frame, scope-of, environment, around, Within, Shown, Sizes, left, AtI, At, at-end as AtI·end, Run}
 use Rattle.machine.proofs.Members.{next-inside, next-rest}
 use Rattle.machine.proofs.Frames.{shown-open, taken, shown-take, shown-left, shown-after, shown-environment, shown-inside, within-around}
 use Rattle.machine.proofs.Steps.{placed-at, sim-end, sim-pass, sim-jump, Stepped, sim-assign, Printed, sim-print, Tested, sim-test, sim-again, sim-range, Nexts, sim-next}
-
--- the arrays have room for 32 open FORs
-pub record Sizes (c : Held) : Type 0 where
-  pub sets : length (c .sets) ≡ 32
-  pub cursors : length (c .cursors) ≡ 32
-  pub variables : length (c .variables) ≡ 32
 
 -- bytes behind an output that stands at the front of a buffer
 written : (o x b : Text) → length o + length x ≤ length (o ++ drop (length o) b)
@@ -45,10 +39,10 @@ written o x b h =
 
 module _ (w : Accepted) (A : Actions) (code : List ℕ) (store₀ : List ℕ) (buffer₀ : Text) where
   -- the machine at the first word, with the facts' tables in the store
-  pub begin : (ss cs vs : List ℕ) → Holds-program w A code → words-needed w ≤ length store₀
+  pub begin : (ss cs vs : List ℕ) → Sizes ss cs vs → Holds-program w A code → words-needed w ≤ length store₀
       → Run w A code store₀ buffer₀ (held 0 0 (store-image w (loaded w) store₀) buffer₀ ss cs vs) 0
   unfolding point start environment
-  begin ss cs vs l long =
+  begin ss cs vs z l long =
       record {
         fs = [];
         k = tasks (w .program) nowhere [];
@@ -59,6 +53,7 @@ module _ (w : Accepted) (A : Actions) (code : List ℕ) (store₀ : List ℕ) (b
         shown = tt;
         within = within-around (elements w) (instr code 0) [] tt;
         depth = omega arith;
+        sizes = z;
         long = long;
         image = refl;
         count = refl;
@@ -81,6 +76,7 @@ module _ (w : Accepted) (A : Actions) (code : List ℕ) (store₀ : List ℕ) (b
           shown = s;
           within = within-around (elements w) (instr code n) fs i;
           depth = d;
+          sizes = r .sizes;
           long = r .long;
           image = r .image;
           count = r .count;
@@ -114,10 +110,10 @@ module _ (w : Accepted) (A : Actions) (code : List ℕ) (store₀ : List ℕ) (b
     -- Steps.
     advance : (fs′ : List Frame) (ts′ : Tables) (o′ : Text) (c′ : Held) → Stepped w A code fs′ (c′ .pc) (r .k) (r .tables) (r .output) steps ts′ o′
         → Shown (c′ .sets) (c′ .cursors) (c′ .variables) fs′ → Within (elements w) (around (instr code (c′ .pc)) fs′) → length fs′ ≤ 32
-        → c′ .store ≡ store-image w ts′ store₀ → c′ .used ≡ length o′ → length o′ ≤ length buffer₀ → c′ .buffer ≡ o′ ++ drop (length o′) buffer₀
+        → Sizes (c′ .sets) (c′ .cursors) (c′ .variables) → c′ .store ≡ store-image w ts′ store₀ → c′ .used ≡ length o′ → length o′ ≤ length buffer₀ → c′ .buffer ≡ o′ ++ drop (length o′) buffer₀
         → Run w A code store₀ buffer₀ c′ (suc steps)
     unfolding point
-    advance fs′ ts′ o′ c′ s sh i d im u f b =
+    advance fs′ ts′ o′ c′ s sh i d z im u f b =
         record {
           fs = fs′;
           k = s .rest;
@@ -128,6 +124,7 @@ module _ (w : Accepted) (A : Actions) (code : List ℕ) (store₀ : List ℕ) (b
           shown = sh;
           within = i;
           depth = d;
+          sizes = z;
           long = r .long;
           image = im;
           count = u;
@@ -172,7 +169,7 @@ module _ (w : Accepted) (A : Actions) (code : List ℕ) (store₀ : List ℕ) (b
         → Within (elements w) (r .fs) → c′ .sets ≡ c .sets → c′ .cursors ≡ c .cursors → c′ .variables ≡ c .variables
         → c′ .store ≡ store-image w ts′ store₀ → c′ .used ≡ c .used → c′ .buffer ≡ c .buffer → Run w A code store₀ buffer₀ c′ (suc steps)
     quietly ts′ c′ s i e₁ e₂ e₃ im u b =
-        advance (r .fs) ts′ (r .output) c′ s (rw (e₁, e₂, e₃) (r .shown)) (within-around (elements w) (instr code (c′ .pc)) (r .fs) i) (r .depth) im
+        advance (r .fs) ts′ (r .output) c′ s (rw (e₁, e₂, e₃) (r .shown)) (within-around (elements w) (instr code (c′ .pc)) (r .fs) i) (r .depth) (rw (e₁, e₂, e₃) (r .sizes)) im
         (u ∙ r .count) (r .fits) (b ∙ r .bytes)
 
     pub run-assign : instr code (c .pc) ≡ ASSIGN → Run w A code store₀ buffer₀ (turn-by A (elements w) ASSIGN c) (suc steps)
@@ -194,31 +191,32 @@ module _ (w : Accepted) (A : Actions) (code : List ℕ) (store₀ : List ℕ) (b
     pub run-again : {n : ℕ} → instr code (c .pc) ≡ AGAIN n → Run w A code store₀ buffer₀ (turn-by A (elements w) (AGAIN n) c) (suc steps)
     run-again {n} e = run-tested (n - 1) n (suc (c .pc)) (rw e at (r .within)) (sim-again w A code (r .tables) (r .output) steps e (rw e at (r .at)))
 
-    module _ (z : Sizes c) where
-      pub run-range : {d n : ℕ} → instr code (c .pc) ≡ RANGE d n → Run w A code store₀ buffer₀ (turn-by A (elements w) (RANGE d n) c) (suc steps)
-      run-range {d} {n} e =
-          let i : Within (elements w) (r .fs) = rw e at (r .within) in
-          let s = sim-range w A code (r .tables) (r .output) steps (rw e at (r .at)) in
-          let g : ℕ = A .ranges (c .variables) (c .store) (c .pc) in
-          let v : ℕ = getD (c .variables) (length (r .fs)) 0 in
-          let st = s .stepped g v (ranged i (s .does)) in
-          advance _ (r .tables) (r .output) (turn-by A (elements w) (RANGE d n) c) st
-          (shown-open (c .sets) (c .cursors) (c .variables) (r .fs) (s .v .text) d g (s .depth) (omega (arith, s .small, z .sets)) (omega (arith, s .small, z .cursors)) (r .shown))
-          (rw (s .next) i) (omega (arith, s .depth, s .small)) (left-as i (s .does .leaves)) (r .count) (r .fits) (r .bytes)
+    pub run-range : {d n : ℕ} → instr code (c .pc) ≡ RANGE d n → Run w A code store₀ buffer₀ (turn-by A (elements w) (RANGE d n) c) (suc steps)
+    run-range {d} {n} e =
+        let i : Within (elements w) (r .fs) = rw e at (r .within) in
+        let s = sim-range w A code (r .tables) (r .output) steps (rw e at (r .at)) in
+        let g : ℕ = A .ranges (c .variables) (c .store) (c .pc) in
+        let v : ℕ = getD (c .variables) (length (r .fs)) 0 in
+        let st = s .stepped g v (ranged i (s .does)) in
+        advance _ (r .tables) (r .output) (turn-by A (elements w) (RANGE d n) c) st
+        (shown-open (c .sets) (c .cursors) (c .variables) (r .fs) (s .v .text) d g (s .depth) (omega (arith, s .small, r .sizes .sets)) (omega (arith, s .small, r .sizes .cursors)) (r .shown))
+        (rw (s .next) i) (omega (arith, s .depth, s .small))
+        (record { sets = length-set (c .sets) d g ∙ r .sizes .sets; cursors = length-set (c .cursors) d 0 ∙ r .sizes .cursors; variables = r .sizes .variables }) (left-as i (s .does .leaves)) (r .count) (r .fits) (r .bytes)
 
-      pub run-next : {d n : ℕ} → instr code (c .pc) ≡ NEXT d n → (left-at (elements w) (c .sets) (c .cursors) d ≡ [] → ⊥)
-          → Run w A code store₀ buffer₀ (turn-by A (elements w) (NEXT d n) c) (suc steps)
-      run-next {d} {n} e h =
-          let s = nexts e in
-          let a : ℕ = next-at (elements w) (c .sets) (c .cursors) d in
-          let m : left w (s .f) ≡ a ∷ left w (taken (s .f) a) =
-          next-left e ∙ next-rest (elements w) (c .sets) (c .cursors) d h
-          ∙ ap (λ l. a ∷ l) (shown-after w (c .sets) (c .cursors) (c .variables) (s .f) (s .fs) d a (s .depth) (next-shown e)) in
-          let st = s .more a m (r .tables) (r .output) steps in
-          advance (taken (s .f) a ∷ s .fs) (r .tables) (r .output) (turn-by A (elements w) (NEXT d n) c) st
-          (shown-take (c .sets) (c .cursors) (c .variables) (s .f) (s .fs) d a (s .depth) (omega (arith, s .small, z .cursors)) (omega (arith, s .small, z .variables)) (next-shown e))
-          (within-around (elements w) (instr code n) (taken (s .f) a ∷ s .fs) (next-inside (elements w) (c .sets) (c .cursors) d h, next-within e))
-          (omega (arith, s .depth, s .small)) (r .image) (r .count) (r .fits) (r .bytes)
+    pub run-next : {d n : ℕ} → instr code (c .pc) ≡ NEXT d n → (left-at (elements w) (c .sets) (c .cursors) d ≡ [] → ⊥)
+        → Run w A code store₀ buffer₀ (turn-by A (elements w) (NEXT d n) c) (suc steps)
+    run-next {d} {n} e h =
+        let s = nexts e in
+        let a : ℕ = next-at (elements w) (c .sets) (c .cursors) d in
+        let m : left w (s .f) ≡ a ∷ left w (taken (s .f) a) =
+        next-left e ∙ next-rest (elements w) (c .sets) (c .cursors) d h
+        ∙ ap (λ l. a ∷ l) (shown-after w (c .sets) (c .cursors) (c .variables) (s .f) (s .fs) d a (s .depth) (next-shown e)) in
+        let st = s .more a m (r .tables) (r .output) steps in
+        advance (taken (s .f) a ∷ s .fs) (r .tables) (r .output) (turn-by A (elements w) (NEXT d n) c) st
+        (shown-take (c .sets) (c .cursors) (c .variables) (s .f) (s .fs) d a (s .depth) (omega (arith, s .small, r .sizes .cursors)) (omega (arith, s .small, r .sizes .variables)) (next-shown e))
+        (within-around (elements w) (instr code n) (taken (s .f) a ∷ s .fs) (next-inside (elements w) (c .sets) (c .cursors) d h, next-within e))
+        (omega (arith, s .depth, s .small))
+        (record { sets = r .sizes .sets; cursors = length-set (c .cursors) d (suc a) ∙ r .sizes .cursors; variables = length-set (c .variables) d a ∙ r .sizes .variables }) (r .image) (r .count) (r .fits) (r .bytes)
 
     -- the buffer keeps its length
     buffer-length : length (c .buffer) ≡ length buffer₀
@@ -245,7 +243,7 @@ module _ (w : Accepted) (A : Actions) (code : List ℕ) (store₀ : List ℕ) (b
       pub run-print : c .used + length (bytes A (elements w) c) ≤ length (c .buffer) → Run w A code store₀ buffer₀ (printed-by A (elements w) c) (suc steps)
       run-print h =
           advance (r .fs) (r .tables) (r .output ++ more) (printed-by A (elements w) c) (prints .stepped) (r .shown)
-          (within-around (elements w) (instr code (suc (c .pc))) (r .fs) print-within) (r .depth) (left-as print-within (prints .does .leaves)) (sym print-length)
+          (within-around (elements w) (instr code (suc (c .pc))) (r .fs) print-within) (r .depth) (r .sizes) (left-as print-within (prints .does .leaves)) (sym print-length)
           (rw print-length (omega (arith, buffer-length, h)))
           (ap (λ b. sets b (c .used) (bytes A (elements w) c)) (r .bytes)
           ∙ ap (λ n. sets (r .output ++ drop (length (r .output)) buffer₀) n (bytes A (elements w) c)) (r .count)
@@ -265,6 +263,7 @@ module _ (w : Accepted) (A : Actions) (code : List ℕ) (store₀ : List ℕ) (b
             shown = r .shown;
             within = r .within;
             depth = r .depth;
+            sizes = r .sizes;
             long = r .long;
             image = left-as print-within (prints .does .leaves);
             count = r .count;

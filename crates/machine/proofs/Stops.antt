@@ -20,7 +20,7 @@ use Rattle.machine.specs.Actions.{Actions}
 use Rattle.machine.specs.Turns.{Held, Move, Moves, here, on, rests, overflows, goes, goes-after, turn-by, turn, is-full}
 use Rattle.machine.specs.Standing.{Run, Gone}
 use Rattle.machine.proofs.Steps.{sim-end, sim-print}
-use Rattle.machine.proofs.Runs.{Sizes, moves-on, run-assign, run-test, run-again, run-range, run-next, run-print, run-stay, run-unfit}
+use Rattle.machine.proofs.Runs.{moves-on, run-assign, run-test, run-again, run-range, run-next, run-print, run-stay, run-unfit}
 
 false-true : _≡_ {A = Bool} false true → ⊥
 false-true e = let z : _≡_ {A = ℕ} 0 1 = cc in omega arith
@@ -49,7 +49,7 @@ module _ (w : Accepted) (A : Actions) (code : List ℕ) (store₀ : List ℕ) (b
           run = r;
         }
 
-  module _ (c : Held) (steps : ℕ) (r : Run w A code store₀ buffer₀ c steps) (z : Sizes c) where
+  module _ (c : Held) (steps : ℕ) (r : Run w A code store₀ buffer₀ c steps) where
     turn-of : (i : Instr) → instr code (c .pc) ≡ i → rests (elements w) code (c .sets) (c .cursors) i → (i ≡ END → ⊥)
         → overflows A (elements w) i c ≡ false → Run w A code store₀ buffer₀ (turn-by A (elements w) i c) (suc steps)
     turn-of END e s n o = absurd (n refl)
@@ -58,8 +58,8 @@ module _ (w : Accepted) (A : Actions) (code : List ℕ) (store₀ : List ℕ) (b
     turn-of PRINT e s n o = rw o (run-print w A code store₀ buffer₀ c steps r e (ltb-false _ _ o))
     turn-of (TEST m) e s n o = run-test w A code store₀ buffer₀ c steps r e
     turn-of (AGAIN m) e s n o = run-again w A code store₀ buffer₀ c steps r e
-    turn-of (RANGE d m) e s n o = run-range w A code store₀ buffer₀ c steps r z e
-    turn-of (NEXT d m) e s n o = run-next w A code store₀ buffer₀ c steps r z e s
+    turn-of (RANGE d m) e s n o = run-range w A code store₀ buffer₀ c steps r e
+    turn-of (NEXT d m) e s n o = run-next w A code store₀ buffer₀ c steps r e s
     turn-of (JUMP m) e s n o = absurd s
 
     -- where a step is taken, tasks are left

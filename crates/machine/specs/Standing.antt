@@ -59,6 +59,12 @@ Shown ss cs vs (f ∷ fs) = (getD ss (length fs) 0 ≡ f .set) × (getD cs (leng
 unfoldable pub left : Accepted → Frame → List ℕ
 left w f = members (f .set) (f .cursor) (elements w - f .cursor)
 
+-- the arrays have room for 32 open FORs
+pub record Sizes (ss cs vs : List ℕ) : Type 0 where
+  pub sets : length ss ≡ 32
+  pub cursors : length cs ≡ 32
+  pub variables : length vs ≡ 32
+
 module _ (w : Accepted) (A : Actions) (code : List ℕ) where
   -- at pc, with the FORs fs open, the tasks k are left: by the instruction at pc
   pub data AtI : Instr → List Frame → ℕ → List Task → Type 0 where
@@ -99,6 +105,7 @@ module _ (w : Accepted) (A : Actions) (code : List ℕ) where
     pub shown : Shown (c .sets) (c .cursors) (c .variables) fs
     pub within : Within (elements w) (around (instr code (c .pc)) fs)
     pub depth : length fs ≤ 32
+    pub sizes : Sizes (c .sets) (c .cursors) (c .variables)
     pub long : words-needed w ≤ length store₀
     pub image : c .store ≡ store-image w tables store₀
     pub count : c .used ≡ length output

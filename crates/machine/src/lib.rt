@@ -6,13 +6,16 @@ ghost use mathlib.Core.List.{List};
 ghost use lib.ListN.{length, getD, set};
 ghost use Rattle.machine.specs.Actions.{members};
 ghost use Rattle.words.specs.Fields.{kind-of, PRINT};
-ghost use Rattle.actions.specs.Doing.{left-by, test-by};
+ghost use Rattle.lines.specs.Lines.{texts};
+ghost use Rattle.actions.specs.Doing.{left-by, test-by, print-by};
 ghost use Rattle.machine.specs.Turns.{Settled, Quiet, next-at, held, turn};
-ghost use Rattle.machine.specs.Bound.{actions};
+ghost use Rattle.machine.specs.Bound.{actions, Turned, stopped-of, Goes};
 use actions::assign_at;
+use actions::print_at;
 use actions::range_at;
 use actions::test_at;
 use bits::test_bit;
+use definition::Ending;
 
 // The least member of s from `from` on, or u where none is below u.
 fn seek(s: u64, from: u8, u: u8) -> u8
@@ -145,5 +148,149 @@ fn step(
         34 => branch(words, store, firsts, vars, u, pc, pc + 1, n),
         36 => branch(words, store, firsts, vars, u, before(n), n, pc + 1),
         _ => pc,
+    }
+}
+
+// What a step leaves: where the machine goes on, the bytes written, and whether it was a PRINT that does not fit.
+struct Acted {
+    pc: usize,
+    used: usize,
+    full: bool,
+}
+
+// The step at a place.
+fn act<'a>(
+    words: &[u64],
+    firsts: &[u64],
+    u: u8,
+    scr: usize,
+    facts: &'a [u8],
+    query: &'a [u8],
+    places: &[usize],
+    store: &mut [u64],
+    out: &mut [u8],
+    sets: &mut [u64; 32],
+    cursors: &mut [u8; 32],
+    vars: &mut [u8; 32],
+    pc: usize,
+    used: usize,
+) -> Acted
+    requires { ⌜ (u < 65) × (pc < length (now words)) ⌝ }
+    ensures { λ r. ⌜ Turned (actions (now (words .entry)) (now (firsts .entry)) u scr (print-by (now (words .entry)) (now (firsts .entry)) u (texts (now (facts .entry)) (now (query .entry)) (now (places .entry))))) u (now (words .entry)) (held pc used (now (store .entry)) (now (out .entry)) (now (sets .entry)) (now (cursors .entry)) (now (vars .entry))) (r .full) (held (r .pc) (r .used) (now (store .exit)) (now (out .exit)) (now (sets .exit)) (now (cursors .exit)) (now (vars .exit))) ⌝ }
+{
+    if words[pc] % 256 != 37 {
+        let n = step(words, firsts, u, scr, store, sets, cursors, vars, pc);
+        return Acted {
+            pc: n,
+            used: used,
+            full: false,
+        };
+    }
+    let end = print_at(
+        words,
+        store,
+        firsts,
+        vars,
+        u,
+        facts,
+        query,
+        places,
+        pc,
+        out,
+        used,
+    );
+    if out.len() < end {
+        return Acted {
+            pc: pc,
+            used: used,
+            full: true,
+        };
+    }
+    Acted {
+        pc: pc + 1,
+        used: end,
+        full: false,
+    }
+}
+
+// Where a run stands: its place in the words, its steps and its bytes. Its open FORs are in arrays beside it.
+pub struct Machine {
+    pub pc: usize,
+    pub steps: u32,
+    pub used: usize,
+}
+
+// How the loop stopped, and where.
+pub struct Went {
+    pub ending: Ending,
+    pub machine: Machine,
+}
+
+fn stop(ending: Ending, pc: usize, steps: u32, used: usize) -> Went
+    ensures { λ r. ⌜ (r .ending ≡ ending) × (r .machine .pc ≡ pc) × (r .machine .steps ≡ steps) × (r .machine .used ≡ used) ⌝ }
+{
+    Went {
+        ending: ending,
+        machine: Machine {
+            pc: pc,
+            steps: steps,
+            used: used,
+        },
+    }
+}
+
+// Goes on with a run up to a limit of steps, counted from the run's start. Before each step the limit is tested.
+pub fn go<'a>(
+    words: &[u64],
+    firsts: &[u64],
+    u: u8,
+    scr: usize,
+    facts: &'a [u8],
+    query: &'a [u8],
+    places: &[usize],
+    store: &mut [u64],
+    out: &mut [u8],
+    sets: &mut [u64; 32],
+    cursors: &mut [u8; 32],
+    vars: &mut [u8; 32],
+    m: Machine,
+    limit: u32,
+) -> Went
+    requires { ⌜ (u < 65) × (m .steps ≤ limit) ⌝ }
+    ensures { λ r. ⌜ Goes (actions (now (words .entry)) (now (firsts .entry)) u scr (print-by (now (words .entry)) (now (firsts .entry)) u (texts (now (facts .entry)) (now (query .entry)) (now (places .entry))))) u (now (words .entry)) limit (held (m .pc) (m .used) (now (store .entry)) (now (out .entry)) (now (sets .entry)) (now (cursors .entry)) (now (vars .entry))) (m .steps) (stopped-of r) (held (r .machine .pc) (r .machine .used) (now (store .exit)) (now (out .exit)) (now (sets .exit)) (now (cursors .exit)) (now (vars .exit))) ⌝ }
+{
+    let mut pc = m.pc;
+    let mut steps = m.steps;
+    let mut used = m.used;
+    loop {
+        let at = settle(words, sets, cursors, u, pc);
+        if at >= words.len() {
+            return stop(Ending::Done, at, steps, used);
+        }
+        if steps == limit {
+            return stop(Ending::Spent, at, steps, used);
+        }
+        let a = act(
+            words,
+            firsts,
+            u,
+            scr,
+            facts,
+            query,
+            places,
+            store,
+            out,
+            sets,
+            cursors,
+            vars,
+            at,
+            used,
+        );
+        if a.full {
+            return stop(Ending::Full, a.pc, steps, a.used);
+        }
+        pc = a.pc;
+        used = a.used;
+        steps += 1;
     }
 }

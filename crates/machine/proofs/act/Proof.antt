@@ -1,0 +1,82 @@
+-- A PRINT by whether it fits, any other step as it is.
+use Prim.Native.Nat.{ℕ}
+use mathlib.Core.List.{List}
+use native.Mathlib.Omega.{arith}
+use Rattle.lines.specs.Lines.{Texts, texts}
+use Rattle.actions.specs.Doing.{print-by}
+use Rattle.machine.specs.Actions.{Actions}
+use Rattle.machine.specs.Bound.{actions}
+use Rattle.machine.proofs.Acting.{act-step, act-full, act-print}
+use borrow.Author.Needs.{needs}
+use Rattle.machine.proofs.act.Statement.{statement}
+use Rattle.machine.proofs.act.Tie as tie
+use Rattle.machine.proofs.act.Reads as reads
+use Rattle.machine.proofs.act.Lts as lts
+use Rattle.actions.proofs.print_at.Reads as print-at-reads
+use Rattle.machine.proofs.step.Reads as step-reads
+
+abbrev all : List ℕ → List ℕ → ℕ → ℕ → Texts → Actions
+all words firsts u scr T = actions words firsts u scr (print-by words firsts u T)
+
+mul-if1 : tie.Need-mul-if1
+mul-if1 c = search needs
+
+shared-slice-read-if1 : tie.Need-shared-slice-read-if1
+shared-slice-read-if1 c = search needs
+
+step-requires : tie.Need-step-requires
+step-requires c κs = search needs
+
+same-length : tie.Need-same-length
+same-length c = search needs
+
+returns : tie.Need-returns
+returns c =
+    let a = c .before .before .before .before .before .before .before .before .before .before .before .before .before .before .before .before .args in
+    act-step (all (a .words .now) (a .firsts .now) (a .u) (a .scr) (texts (a .facts .now) (a .query .now) (a .places .now))) (a .u) (a .words .now) (a .pc) (a .used) (a .store .now) (a .out .now) (a .sets .now) (a .cursors .now) (a .vars .now) (omega arith) (c .before .before .before .before .before .before .before .if1 .taken) _ (c .before .before .step .ensures (print-by (a .words .now) (a .firsts .now) (a .u) (texts (a .facts .now) (a .query .now) (a .places .now))) (a .used) (a .out .now))
+
+print-at-requires : tie.Need-print-at-requires
+print-at-requires c κs = search needs
+
+same-length-2 : tie.Need-same-length-2
+same-length-2 c = search needs
+
+same-length-3 : tie.Need-same-length-3
+same-length-3 c = search needs
+
+returns-2 : tie.Need-returns-2
+returns-2 c =
+    let a = c .before .before .before .before .before .before .before .before .before .before .before .before .before .before .before .before .before .before .before .args in
+    act-full (all (a .words .now) (a .firsts .now) (a .u) (a .scr) (texts (a .facts .now) (a .query .now) (a .places .now))) (a .u) (a .words .now) (a .pc) (a .used) (a .store .now) (a .out .now) (a .sets .now) (a .cursors .now) (a .vars .now) (omega arith) (c .before .before .before .before .before .before .before .before .before .before .if1 .left) (c .before .before .before .before .before .print-at .ensures .0) (c .before .before .before .before .before .print-at .ensures .1) (omega arith)
+
+add-t17 : tie.Need-add-t17
+add-t17 c = search needs
+
+same-length-4 : tie.Need-same-length-4
+same-length-4 c = search needs
+
+same-length-5 : tie.Need-same-length-5
+same-length-5 c = search needs
+
+returns-3 : tie.Need-returns-3
+returns-3 c =
+    let a = c .before .before .before .before .before .before .before .before .before .before .before .before .before .before .before .before .before .before .before .args in
+    act-print (all (a .words .now) (a .firsts .now) (a .u) (a .scr) (texts (a .facts .now) (a .query .now) (a .places .now))) (a .u) (a .words .now) (a .pc) (a .used) (a .store .now) (a .out .now) (a .sets .now) (a .cursors .now) (a .vars .now) (omega arith) (c .before .before .before .before .before .before .before .before .before .before .if1 .left) (c .before .before .before .before .before .print-at .ensures .0) (c .before .before .before .before .before .print-at .ensures .1) (omega arith)
+
+pub act-spec : {M : Type 1} → statement M
+act-spec =
+    tie.close
+    (tie.spec
+    mul-if1
+    shared-slice-read-if1
+    step-requires
+    same-length
+    returns
+    print-at-requires
+    same-length-2
+    same-length-3
+    returns-2
+    add-t17
+    same-length-4
+    same-length-5
+    returns-3)
