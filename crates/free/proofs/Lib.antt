@@ -1,5 +1,4 @@
 -- Laws of the free attributes of words.
 pub mod Frame
 pub mod Slotted
-pub mod Places
 pub mod Trees

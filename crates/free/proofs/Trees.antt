@@ -15,7 +15,9 @@ use Rattle.words.specs.Fields.{word, kind-of, p-of, q-of, RELATION-NAME, ATTRIB
 use Rattle.words.specs.Raw.{number, sign-number, leaf, leaves, size, over, flat}
 use Rattle.words.specs.Tokens.{OwnName, OwnTerm, OwnTerms, OwnExpression}
 use Rattle.words.proofs.FieldLaws.{kind-word, p-word, q-word}
+use Rattle.words.specs.Standing.{Has}
 use Rattle.words.proofs.Sizes.{length-leaves, length-flat, size-pos}
+use Rattle.words.proofs.Places.{has-append, Two, has-two, One, has-one}
 use Rattle.digits.specs.Lists.{add, adds, remove, pack}
 use Rattle.digits.specs.Packed.{plus, joined, without}
 use Rattle.digits.proofs.Listing.{Once, Within, Listed, listed-add, listed-adds, listed-remove}
@@ -24,13 +26,12 @@ use Rattle.slots.specs.Slots.{takes}
 use Rattle.slots.proofs.Texts.{nil-join}
 use Rattle.free.specs.Words.{is-leaf, at, below, terms, operator, free-word, Filled}
 use Rattle.free.proofs.Slotted.{pos-le, slot, AllIn, all-keep, all-join, map-remove, map-join, digit, TermsIn, Covered, covered-split, covered-terms, all-attributes, terms-slots}
-use Rattle.free.proofs.Places.{Has, has-append, Two, has-two, One, has-one}
 
-not-leaf : (c : ℕ) → (c ≡ 3 → ⊥) → (c ≡ 43 → ⊥) → (c ≡ 9 → ⊥) → is-leaf c ≡ false
+pub not-leaf : (c : ℕ) → (c ≡ 3 → ⊥) → (c ≡ 43 → ⊥) → (c ≡ 9 → ⊥) → is-leaf c ≡ false
 unfolding is-leaf
 not-leaf c a b d = rw (ne-eqb c 3 a, ne-eqb c 43 b, ne-eqb c 9 d) refl
 
-op-leaf : (c : ℕ) → 10 ≤ c → c < 43 → is-leaf c ≡ false
+pub op-leaf : (c : ℕ) → 10 ≤ c → c < 43 → is-leaf c ≡ false
 op-leaf c l h = not-leaf c (λ e. omega arith) (λ e. omega arith) (λ e. omega arith)
 
 module _ (ts : List Token) (few : length ts < 65536) (words fr : List ℕ) (s N : ℕ) (D : ℕ → ℕ) (filled : Filled words D fr s N) (small : N < 65536)
@@ -40,20 +41,20 @@ module _ (ts : List Token) (few : length ts < 65536) (words fr : List ℕ) (s N 
   abbrev pub before : ℕ → ℕ
   before n = terms (at words) (at fr) s n
 
-  abbrev slots : List Text → List ℕ
+  abbrev pub slots : List Text → List ℕ
   slots xs = map (slot names) xs
 
-  abbrev digit-of : Term → ℕ
+  abbrev pub digit-of : Term → ℕ
   digit-of p = digit names vs loops p
 
   n-pred : (n : ℕ) → n + 1 - 1 ≡ n
   n-pred n = omega arith
 
-  after-leaf : (n : ℕ) → s ≤ n → is-leaf (kind-of (getD words n 0)) ≡ true → before (n + 1) ≡ getD fr n 0
+  pub after-leaf : (n : ℕ) → s ≤ n → is-leaf (kind-of (getD words n 0)) ≡ true → before (n + 1) ≡ getD fr n 0
   unfolding terms
   after-leaf n h e = rw (lt-leb (n + 1) s (omega arith), n-pred n, e) refl
 
-  after-other : (n c p q r : ℕ) → s ≤ n → c < 256 → is-leaf c ≡ false → getD words n 0 ≡ word c p q r → before (n + 1) ≡ 0
+  pub after-other : (n c p q r : ℕ) → s ≤ n → c < 256 → is-leaf c ≡ false → getD words n 0 ≡ word c p q r → before (n + 1) ≡ 0
   unfolding terms
   after-other n c p q r h hc e w = rw (lt-leb (n + 1) s (omega arith), n-pred n, w, kind-word c p q r hc, e) refl
 
@@ -79,14 +80,14 @@ module _ (ts : List Token) (few : length ts < 65536) (words fr : List ℕ) (s N 
   digit-small anything = omega arith
 
   -- one term
-  leaf-free : (n : ℕ) (p : Term) (ds : List ℕ) → s ≤ n → n < N → OwnTerm ts p → getD words n 0 ≡ leaf TERM p → Listed 4 ds → before n ≡ pack ds → before (n + 1) ≡ pack (add ds (digit-of p))
+  pub leaf-free : (n : ℕ) (p : Term) (ds : List ℕ) → s ≤ n → n < N → OwnTerm ts p → getD words n 0 ≡ leaf TERM p → Listed 4 ds → before n ≡ pack ds → before (n + 1) ≡ pack (add ds (digit-of p))
   unfolding free-word
   leaf-free n p ds l h o e i t =
       after-leaf n l (leaf-kind n p e) ∙ filled n l h
       ∙ rw (leaf-kind n p e, t, e, leaf-digit p o) (plus-law ds (digit-of p) i (digit-small p))
 
   -- the terms of an atom
-  terms-free : (ps : List Term) (n : ℕ) (ds : List ℕ) → s ≤ n → n + length ps ≤ N → OwnTerms ts ps → Has words n (leaves TERM ps) → Listed 4 ds → before n ≡ pack ds →
+  pub terms-free : (ps : List Term) (n : ℕ) (ds : List ℕ) → s ≤ n → n + length ps ≤ N → OwnTerms ts ps → Has words n (leaves TERM ps) → Listed 4 ds → before n ≡ pack ds →
       (before (n + length ps) ≡ pack (adds ds (map digit-of ps))) × Listed 4 (adds ds (map digit-of ps))
   unfolding leaves Has OwnTerms adds
   terms-free [] n ds l h o r i t = let e : n + 0 ≡ n = omega arith in (rw e t, i)
@@ -147,7 +148,7 @@ module _ (ts : List Token) (few : length ts < 65536) (words fr : List ℕ) (s N 
     pub inside : AllIn names (free vs e)
     pub ended : before (n + size e) ≡ 0
 
-  nil-listed : Listed 4 []
+  pub nil-listed : Listed 4 []
   unfolding Once Within
   nil-listed = record { once = tt; within = tt }
 
@@ -155,12 +156,12 @@ module _ (ts : List Token) (few : length ts < 65536) (words fr : List ℕ) (s N 
   unfolding AllIn
   nil-in = tt
 
-  pack-nil : pack [] ≡ 0
+  pub pack-nil : pack [] ≡ 0
   unfolding pack
   pack-nil = refl
 
   -- the slots of an atom's terms
-  atom-slots : (ps : List Term) → TermsIn names vs loops ps → adds [] (map digit-of ps) ≡ slots (attributes vs ps)
+  pub atom-slots : (ps : List Term) → TermsIn names vs loops ps → adds [] (map digit-of ps) ≡ slots (attributes vs ps)
   atom-slots ps t = terms-slots names vs loops ps [] t nil-in ∙ ap slots (nil-join (attributes vs ps))
 
   -- an atom whose terms stand from m on and whose last word is at k

@@ -21,7 +21,7 @@ use Rattle.digits.specs.Lists as Lists
 use Rattle.slots.specs.Slots.{takes, of-loop, add-name, add-word, names-of, place-from}
 use Rattle.slots.proofs.Texts.{add-text, join-add, join-nil, nil-join}
 
-eqb-sym : (a b : ℕ) → eqb a b ≡ eqb b a
+pub eqb-sym : (a b : ℕ) → eqb a b ≡ eqb b a
 eqb-sym a b = go (eqb a b) refl
   where
     go : (t : Bool) → eqb a b ≡ t → t ≡ eqb b a
@@ -61,7 +61,7 @@ unfolding takes
 takes-none k h = rw (ne-eqb k 2 (λ e. omega arith), ne-eqb k 3 (λ e. omega arith)) refl
 
 module _ (facts query : Text) (tokens ids known relations : List ℕ) (count : ℕ) (K : Kinds) (stands : Stands facts query tokens ids known relations count K) (ts : List Token) (stand : Stand query tokens ts) where
-  abbrev name-at : ℕ → Text
+  abbrev pub name-at : ℕ → Text
   name-at t = text-at query (getD tokens t 0)
 
   -- numbers of names, and the names

@@ -25,7 +25,7 @@ no-closure : (k p q r : ℕ) → k < 256 → (k ≡ CLOSURE → ⊥) → one-clo
 unfolding one-closure
 no-closure k p q r h n = rw (kind-word k p q r h, ne-eqb k CLOSURE n) refl
 
-skip : (k p q r : ℕ) (ws : List ℕ) {n : ℕ} → k < 256 → (k ≡ CLOSURE → ⊥) → closure-count ws ≡ n → closure-count (word k p q r ∷ ws) ≡ n
+pub skip : (k p q r : ℕ) (ws : List ℕ) {n : ℕ} → k < 256 → (k ≡ CLOSURE → ⊥) → closure-count ws ≡ n → closure-count (word k p q r ∷ ws) ≡ n
 unfolding closure-count
 skip k p q r ws h n e = rw (no-closure k p q r h n) (omega (arith, e))
 

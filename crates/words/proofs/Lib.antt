@@ -1,5 +1,6 @@
 -- Laws of the words of a program.
 pub mod FieldLaws
 pub mod Sizes
+pub mod Places
 pub mod NameOrder
 pub mod StatementParts

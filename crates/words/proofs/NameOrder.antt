@@ -17,7 +17,7 @@ use Rattle.words.specs.Shown.{role-of, Shows, none, other, named}
 use Rattle.words.proofs.FieldLaws.{kind-word, p-word, q-word}
 
 module _ (ts : List Token) (few : length ts < 65536) where
-  both : {xs ys : List ℕ} {us vs : List Use} → Shows ts xs us → Shows ts ys vs → Shows ts (xs ++ ys) (us ++ vs)
+  pub both : {xs ys : List ℕ} {us vs : List Use} → Shows ts xs us → Shows ts ys vs → Shows ts (xs ++ ys) (us ++ vs)
   both none t = t
   both (other h s) t = other h (both s t)
   both (named e f h l n o s) t = named e f h l n o (both s t)
@@ -26,7 +26,7 @@ module _ (ts : List Token) (few : length ts < 65536) where
   skip : (k p q r : ℕ) {xs : List ℕ} {us : List Use} → NEXT < k → k < 256 → Shows ts xs us → Shows ts (word k p q r ∷ xs) us
   skip k p q r h l s = let e : NEXT < kind-of (word k p q r) = rw (kind-word k p q r l) h in other e s
 
-  first : (k q r : ℕ) (t : Token) {xs : List ℕ} {us : List Use} → 0 < k → k ≤ NEXT → OwnName ts t → q < 65536 → Shows ts xs us → Shows ts (word k (number t) q r ∷ xs) (use-as (role-of k q) t ∷ us)
+  pub first : (k q r : ℕ) (t : Token) {xs : List ℕ} {us : List Use} → 0 < k → k ≤ NEXT → OwnName ts t → q < 65536 → Shows ts xs us → Shows ts (word k (number t) q r ∷ xs) (use-as (role-of k q) t ∷ us)
   first k q r t h l o hq s =
       let f : number t < 65536 = omega (arith, o .inside) in
       named (kind-word k (number t) q r (omega arith)) (q-word k (number t) q r (omega arith) f hq) h l (p-word k (number t) q r (omega arith) f) o s
@@ -38,7 +38,7 @@ module _ (ts : List Token) (few : length ts < 65536) where
   two-last : (k p q r : ℕ) {xs ys : List ℕ} {us vs : List Use} → NEXT < k → k < 256 → Shows ts xs us → Shows ts ys vs → Shows ts (xs ++ (ys ++ (word k p q r ∷ []))) (us ++ vs)
   two-last k p q r h l s t = both s (last k p q r h l t)
 
-  leaves-uses : (k : ℕ) (p : Role) (ps : List Term) → 0 < k → k ≤ NEXT → role-of k 0 ≡ p → OwnTerms ts ps → Shows ts (leaves k ps) (in-terms p ps)
+  pub leaves-uses : (k : ℕ) (p : Role) (ps : List Term) → 0 < k → k ≤ NEXT → role-of k 0 ≡ p → OwnTerms ts ps → Shows ts (leaves k ps) (in-terms p ps)
   unfolding leaves in-terms OwnTerms
   leaves-uses k p [] a b e o = none
   leaves-uses k p (name t ∷ ps) a b e o = rw (← e) (first k 0 0 t a b (o .0) (omega arith) (rw e (leaves-uses k p ps a b e (o .1))))

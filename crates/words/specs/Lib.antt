@@ -1,7 +1,8 @@
--- The words of a parsed program: fields and kinds, the words of each tree, the tokens of a program, the uses of names and the statements
+-- The words of a parsed program: fields and kinds, the words of each tree and where they stand, the tokens of a program, the uses of names and the statements
 -- as its words show them.
 pub mod Fields
 pub mod Raw
+pub mod Standing
 pub mod Tokens
 pub mod Shown
 pub mod Parts

@@ -1,17 +1,15 @@
 -- Where the words of a tree stand.
-use Prim.Native.Nat.{ℕ, suc, _+_, _-_}
-use mathlib.Core.Path.{_≡_}
+use Prim.Native.Nat.{ℕ, suc, _+_, _-_, _≤_, _<_}
+use mathlib.Core.Path.{_≡_, refl, sym, ap, _∙_}
 use mathlib.Core.List.{List, [], _∷_, _++_}
 use native.Mathlib.Omega.{arith}
-use lib.ListN.{length, getD}
+use native.Mathlib.Numerals.{add-one}
+use lib.ListN.{length, getD, take, drop, length-drop}
+use lib.Seq.{drop-cons}
 use Rattle.definition.specs.Syntax.{Expression}
 use Rattle.words.specs.Raw.{size, over, flat}
 use Rattle.words.proofs.Sizes.{length-flat}
-
--- the words ws stand in words from n on
-unfoldable pub Has : List ℕ → ℕ → List ℕ → Type 0
-Has words n [] = Unit {0}
-Has words n (w ∷ ws) = (getD words n 0 ≡ w) × Has words (n + 1) ws
+use Rattle.words.specs.Standing.{Has}
 
 pub has-append : (words : List ℕ) (n : ℕ) (xs ys : List ℕ) → Has words n (xs ++ ys) → Has words n xs × Has words (n + length xs) ys
 unfolding Has
@@ -41,3 +39,26 @@ pub record One (words : List ℕ) (n w : ℕ) (e : Expression) : Type 0 where
 pub has-one : (words : List ℕ) (n w : ℕ) (e : Expression) → Has words n (flat e n ++ (w ∷ [])) → One words n w e
 unfolding Has
 has-one words n w e h = let p = has-append words n (flat e n) _ h in record { inner = p .0; root = rw (length-flat e n) at (p .1 .0) }
+
+-- words that stand in an array are a part of it
+pub has-part : (words : List ℕ) (n : ℕ) (xs : List ℕ) → n + length xs ≤ length words → Has words n xs → take (length xs) (drop n words) ≡ xs
+unfolding Has
+has-part words n [] h w = refl
+has-part words n (x ∷ xs) h w =
+    let l : n < length words = omega arith in
+    rw (drop-cons words n 0 l, w .0) (ap (λ (ys : List ℕ). x ∷ ys) (rw (← add-one n) (has-part words (n + 1) xs (omega arith) (w .1))))
+
+-- the words of an array from n on
+has-drop : (words : List ℕ) (n : ℕ) (ws : List ℕ) → drop n words ≡ ws → Has words n ws
+unfolding Has
+has-drop words n [] e = tt
+has-drop words n (w ∷ ws) e =
+    let l : n < length words = omega (arith, ap length e, length-drop n words) in
+    let q : _≡_ {A = List ℕ} (getD words n 0 ∷ drop (suc n) words) (w ∷ ws) = sym (drop-cons words n 0 l) ∙ e in
+    let a : getD words n 0 ≡ w = cc in
+    let b : drop (suc n) words ≡ ws = cc in
+    (a, has-drop words (n + 1) ws (rw (add-one n) b))
+
+-- an array's words stand in it
+pub has-all : (words : List ℕ) → Has words 0 words
+has-all words = has-drop words 0 words refl
