@@ -4,3 +4,4 @@ pub mod Sizes
 pub mod Places
 pub mod NameOrder
 pub mod StatementParts
+pub mod Said
