@@ -2,3 +2,4 @@
 pub mod Parts
 pub mod Rooms
 pub mod Doings
+pub mod Restored

@@ -1,2 +1,3 @@
--- Laws of the numbers of names.
+-- Laws of the numbers of names, and of the lexer's words.
 pub mod Numbering
+pub mod Lexed

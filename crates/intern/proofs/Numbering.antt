@@ -4,36 +4,25 @@ use mathlib.Core.Path.{_≡_, refl, sym, ap, ap₂, _∙_}
 use mathlib.Core.Bool.{Bool, true, false, cond}
 use mathlib.Core.List.{List, [], _∷_}
 use native.Mathlib.Omega.{arith}
-use native.Mathlib.Nat.{add-zero, zero-add, add-sub-cancel-left}
+use native.Mathlib.Nat.{add-zero, zero-add}
 use borrow.Author.Tests.{eq-eqb, ne-eqb, eqb-true, eqb-false, lt-ltb, le-ltb}
-use lib.Seq.{getD-set-same, getD-set-other, take-all, take-nil}
+use lib.Seq.{getD-set-same, getD-set-other}
 use lib.Dec.{eqb}
-use lib.ListN.{length, getD, set, take, drop, length-drop, drop-of-length-le}
+use lib.ListN.{length, getD, set, take, drop}
 use Rattle.definition.specs.Text.{Text, same}
 use Rattle.definition.proofs.BoolLaws.{is-true}
 use Rattle.definition.proofs.MeaningLaws.{same-refl, same-eq}
+use Rattle.parts.specs.Packed.{text-of}
 use Rattle.intern.specs.Entries.{start-of, text-at}
 use Rattle.intern.specs.Numbers.{name-of, seek, number-of}
 
--- a text that starts past the end of the bytes, one that the end cuts off, and a whole one
-module _ (xs : Text) (w a : ℕ) (e : a ≡ start-of w) where
-  pub text-past : length xs ≤ a → [] ≡ text-at xs w
-  unfolding text-at
-  text-past h = sym (rw (← e, drop-of-length-le xs h) (take-nil (w / 64 % 64)))
-
-  pub text-cut : length xs - a < w / 64 % 64 → take (length xs - a) (drop a xs) ≡ text-at xs w
-  unfolding text-at
-  text-cut h =
-      take-all (length xs - a) (drop a xs) (omega (arith, length-drop a xs))
-      ∙ sym (take-all (w / 64 % 64) (drop a xs) (omega (arith, length-drop a xs)))
-      ∙ ap (λ (i : ℕ). take (w / 64 % 64) (drop i xs)) e
-
-  pub text-whole : take (a + w / 64 % 64 - a) (drop a xs) ≡ text-at xs w
-  unfolding text-at
-  text-whole = rw add-sub-cancel-left (ap (λ (i : ℕ). take (w / 64 % 64) (drop i xs)) e)
+-- the text of a word
+pub text-part : (xs : Text) (w a : ℕ) → a ≡ start-of w → take (w / 64 % 64) (drop a xs) ≡ text-at xs w
+unfolding text-at
+text-part xs w a e = rw e refl
 
 module _ (facts query : Text) (relations tokens : List ℕ) (i : ℕ) where
-  pub of-relation : i < length relations → text-at facts (getD relations i 0) ≡ name-of facts query relations tokens i
+  pub of-relation : i < length relations → text-of facts query (getD relations i 0) ≡ name-of facts query relations tokens i
   unfolding name-of
   of-relation h = rw (lt-ltb i (length relations) h)
 

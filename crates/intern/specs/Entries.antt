@@ -1,5 +1,4 @@
--- Tokens and relations as words: the place from bit 12 on, the length of the text in bits 6 to 11, below them a token's kind, or the text
--- and the arity of a relation.
+-- Tokens as words: the place from bit 12 on, the length of the text in bits 6 to 11, below them the token's kind.
 use Prim.Native.Nat.{ℕ, _+_, _/_, _%_, _<_}
 use mathlib.Core.Path.{_≡_}
 use mathlib.Core.Bool.{cond}
@@ -9,7 +8,6 @@ use lib.ListN.{length, getD, take, drop}
 use Rattle.definition.specs.Text.{Text}
 use Rattle.definition.specs.Token as Token
 use Rattle.definition.specs.Token.{Token, token-at}
-use Rattle.definition.specs.Facts.{Relation}
 
 -- the kind of a string's token, whose text starts after its opening quote
 abbrev pub QUOTED : ℕ
@@ -28,8 +26,3 @@ pub record Stand (query : Text) (ws : List ℕ) (ts : List Token) : Type 0 where
   pub texts : (i : ℕ) → i < length ws → token-at ts i .text ≡ text-at query (getD ws i 0)
   pub places : (i : ℕ) → i < length ws → token-at ts i .at ≡ getD ws i 0 / 4096
   pub names : (i : ℕ) → i < length ws → token-at ts i .terminal ≡ Token.name i → getD ws i 0 % 64 ≡ QUOTED → ⊥
-
--- a relation: the two lowest bits are its arity, then comes its text, 0 the facts and 1 the query
-unfoldable pub relation-of : Text → Text → ℕ → Relation
-relation-of facts query w =
-    record { name = text-at (cond (eqb (w / 4 % 16) 0) facts query) w; arity = w % 4; text = w / 4 % 16; at = w / 4096 }

@@ -1,3 +1,3 @@
--- Tokens and relations as words, and the numbers of names.
+-- Tokens as words, and the numbers of names.
 pub mod Entries
 pub mod Numbers

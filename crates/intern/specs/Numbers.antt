@@ -7,12 +7,13 @@ use mathlib.Core.List.{List}
 use lib.Dec.{ltb}
 use lib.ListN.{length, getD}
 use Rattle.definition.specs.Text.{Text, same}
+use Rattle.parts.specs.Packed.{text-of}
 use Rattle.intern.specs.Entries.{text-at}
 
 -- all names: of the facts' relations, then of the query's tokens
 unfoldable pub name-of : Text → Text → List ℕ → List ℕ → ℕ → Text
 name-of facts query relations tokens i =
-    cond (ltb i (length relations)) (text-at facts (getD relations i 0)) (text-at query (getD tokens (i - length relations) 0))
+    cond (ltb i (length relations)) (text-of facts query (getD relations i 0)) (text-at query (getD tokens (i - length relations) 0))
 
 -- the first of the f places from j on whose name is x, else the one after them
 unfoldable pub seek : (ℕ → Text) → Text → ℕ → ℕ → ℕ

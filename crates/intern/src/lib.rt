@@ -20,23 +20,14 @@ fn start(w: u64) -> usize
 pub fn text_at(text: &[u8], w: u64) -> &[u8]
     ensures { λ r. ⌜ now r ≡ text-at (now (text .entry)) w ⌝ }
 {
-    let a = start(w);
-    let n = (w / 64 % 64) as usize;
-    if text.len() <= a {
-        return &text[..0];
-    }
-    if text.len() - a < n {
-        return &text[a..];
-    }
-    let e = a + n;
-    &text[a..e]
+    parts::part(text, start(w), (w / 64 % 64) as usize)
 }
 
 // The name at a place among the relations of the facts and the tokens of the query.
 fn name<'a>(
     facts: &'a [u8],
     query: &'a [u8],
-    relations: &[u64],
+    relations: &[usize],
     tokens: &[u64],
     i: usize,
 ) -> &'a [u8]
@@ -45,7 +36,7 @@ fn name<'a>(
 {
     let k = relations.len();
     if i < k {
-        return text_at(facts, relations[i]);
+        return parts::text_of(facts, query, relations[i]);
     }
     text_at(query, tokens[i - k])
 }
@@ -54,7 +45,7 @@ fn name<'a>(
 fn number<'a>(
     facts: &'a [u8],
     query: &'a [u8],
-    relations: &[u64],
+    relations: &[usize],
     tokens: &[u64],
     i: usize,
 ) -> usize
@@ -77,7 +68,7 @@ fn number<'a>(
 pub fn intern<'a>(
     facts: &'a [u8],
     query: &'a [u8],
-    relations: &[u64],
+    relations: &[usize],
     tokens: &[u64],
     ids: &mut [u64],
 )

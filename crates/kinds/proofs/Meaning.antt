@@ -20,7 +20,9 @@ use Rattle.words.specs.Fields.{kind-of, p-of, q-of, RELATION-NAME, ATTRIBUTE, T
 use Rattle.words.specs.Raw.{number}
 use Rattle.words.specs.Tokens.{OwnName}
 use Rattle.words.specs.Shown.{role-of, Shows, none, other, named}
-use Rattle.intern.specs.Entries.{QUOTED, start-of, text-at, Stand, relation-of}
+use Rattle.parts.specs.Packed.{text-of}
+use Rattle.facts.specs.Words.{relation-of}
+use Rattle.intern.specs.Entries.{QUOTED, start-of, text-at, Stand}
 use Rattle.kinds.specs.declared.Rule.{Rule}
 use Rattle.kinds.specs.declared.Rule.the-variants.{Keep, Fresh, Kind, Arity}
 use Rattle.kinds.specs.Walk.{known-of, relation-code, relation-rule, attribute-rule, variable-rule, term-rule, bind-rule, enter-rule, leave-rule, rule-of, relation-word, State, state, Walked, went, stopped, apply, use-at, step, walk, after}
@@ -132,17 +134,23 @@ lawful k r n = go (eqb r RELATION-NAME) (eqb r ATTRIBUTE) (eqb r TERM) (eqb r WO
     go false false false false false false = as-leave (code k)
 
 -- the word of a new relation
-relation-at : (facts query : Text) (v w n : ℕ) → v / 4 % 16 ≡ 1 → v % 4 ≡ n → v / 64 ≡ w / 64 → v / 4096 ≡ w / 4096 → (v % 64 ≡ QUOTED → ⊥) → (w % 64 ≡ QUOTED → ⊥) →
+relation-at : (facts query : Text) (v w n : ℕ) → v / 4 % 2 ≡ 1 → v % 4 ≡ n → v / 8 % 64 ≡ w / 64 % 64 → v / 512 ≡ w / 4096 → (w % 64 ≡ QUOTED → ⊥) →
     relation-of facts query v ≡ record { name = text-at query w; arity = n; text = 1; at = w / 4096 }
-unfolding relation-of text-at
-relation-at facts query v w n e f g h p q = rw (e, f, g, h, ne-eqb (v % 64) QUOTED p, ne-eqb (w % 64) QUOTED q) refl
+unfolding text-of text-at
+relation-at facts query v w n e f g h q =
+    let z : w / 4096 + 0 ≡ w / 4096 = omega arith in
+    rw (e, f, g, h, ne-eqb (w % 64) QUOTED q, z) refl
 
 new-relation : (facts query : Text) (w n : ℕ) → n ≤ 3 → (w % 64 ≡ QUOTED → ⊥) →
     relation-of facts query (relation-word w n) ≡ record { name = text-at query w; arity = n; text = 1; at = w / 4096 }
 new-relation facts query w n h q =
-    let e : (w / 64 * 64 + 4 + n) / 4 ≡ w / 64 * 16 + 1 = omega arith in
-    let e′ : (w / 64 * 16 + 1) % 16 ≡ 1 = omega arith in
-    relation-at facts query (relation-word w n) w n (rw e e′) (omega arith) (omega arith) (omega arith) (λ z. omega arith) q
+    let a = w / 4096 in
+    let l = w / 64 % 64 in
+    let e : (a * 512 + l * 8 + 4 + n) / 4 ≡ a * 128 + l * 2 + 1 = omega arith in
+    let e′ : (a * 128 + l * 2 + 1) % 2 ≡ 1 = omega arith in
+    let g : (a * 512 + l * 8 + 4 + n) / 8 ≡ a * 64 + l = omega arith in
+    let g′ : (a * 64 + l) % 64 ≡ l = omega arith in
+    relation-at facts query (relation-word w n) w n (rw e e′) (omega arith) (rw g g′) (omega arith) q
 
 module _ (facts query : Text) (tokens ids : List ℕ) (ts : List Token) (stand : Stand query tokens ts) (L : ℕ)
     (apart : (s t : ℕ) → s < length tokens → t < length tokens → same (text-at query (getD tokens s 0)) (text-at query (getD tokens t 0)) ≡ eqb (getD ids s 0) (getD ids t 0))

@@ -20,13 +20,14 @@ use Rattle.definition.specs.Names.{Known, nothing, relation, Kinds, in-program,
 use Rattle.definition.specs.declared.Refusal.{Refusal}
 use Rattle.words.specs.Shown.{Shows}
 use Rattle.words.proofs.NameOrder.{program-uses}
-use Rattle.intern.specs.Entries.{text-at, Stand, relation-of}
+use Rattle.facts.specs.Words.{relation-of}
+use Rattle.intern.specs.Entries.{text-at, Stand}
 use Rattle.intern.specs.Numbers.{name-of, seek, number-of, Numbered}
 use Rattle.intern.proofs.Numbering.{of-relation, of-token, faithful, number-le}
 use Rattle.kinds.specs.declared.Named.{Named}
 use Rattle.kinds.specs.declared.Named.the-variants.{Done, Refused}
 use Rattle.kinds.specs.Walk.{known-of, relation-code, State, state, Walked, went, stopped, walk, meets}
-use Rattle.kinds.specs.Resolved.{Parsed, Stands, Resolved, done, refuses, fact-code, FactsKnown, OfFacts}
+use Rattle.kinds.specs.Resolved.{Parsed, Stands, Resolved, done, refuses, fact-code, FactsKnown}
 use Rattle.kinds.proofs.Meaning.{Rep, Sim, walk-uses, known-relation}
 
 seek-ge : (names : ℕ → Text) (x : Text) (f j : ℕ) → j ≤ seek names x f j
@@ -39,7 +40,7 @@ seek-ge names x (suc f) j = go (same x (names j)) (seek-ge names x f (j + 1))
     go false h = omega arith
 
 -- the first place with a name among the facts' relations is what the facts say of the name
-module _ (facts query : Text) (fs tokens : List ℕ) (of-facts : OfFacts fs) (x : Text) where
+module _ (facts query : Text) (fs tokens : List ℕ) (x : Text) where
   abbrev names : ℕ → Text
   names = name-of facts query fs tokens
 
@@ -56,12 +57,10 @@ module _ (facts query : Text) (fs tokens : List ℕ) (of-facts : OfFacts fs) (x 
   code-past i h = rw (le-ltb i (length fs) h) refl
 
   fact-arity : (i : ℕ) → getD fs i 0 % 4 ≡ relation-of facts query (getD fs i 0) .arity
-  unfolding relation-of
   fact-arity i = refl
 
   fact-name : (i : ℕ) → i < length fs → relation-of facts query (getD fs i 0) .name ≡ names i
-  unfolding relation-of
-  fact-name i h = rw (of-facts i h) (of-relation facts query fs tokens i h)
+  fact-name i h = of-relation facts query fs tokens i h
 
   step : (f i : ℕ) → seek names x (suc f) i ≡ cond (same x (names i)) i (seek names x f (i + 1))
   unfolding seek
@@ -104,7 +103,7 @@ module _ (facts query : Text) (tokens ids relations : List ℕ) (given L : ℕ) 
   inside : (t : ℕ) → t < length tokens → getD ids t 0 < L
   inside t h = rw (have t h) (omega (arith, number-le all-names (length fs + t), count-fs))
 
-  module _ (ts : List Token) (stand : Stand query tokens ts) (of-facts : OfFacts fs) where
+  module _ (ts : List Token) (stand : Stand query tokens ts) where
     abbrev Here : State → Kinds → Type 0
     Here = Rep facts query tokens ids ts stand L tell-apart inside
 
@@ -114,7 +113,7 @@ module _ (facts query : Text) (tokens ids relations : List ℕ) (given L : ℕ) 
     fact-codes known l k t h =
         let x = text-at query (getD tokens t 0) in
         sym (ap known-of (k (getD ids t 0) (omega (arith, inside t h)) ∙ ap (fact-code fs) (have t h ∙ ap (λ (y : Text). seek all-names y (length fs + t) 0) (sym (token-name t))))
-        ∙ first-fact facts query fs tokens of-facts x (length fs) 0 (length fs + t) (omega arith) (omega arith))
+        ∙ first-fact facts query fs tokens x (length fs) 0 (length fs + t) (omega arith) (omega arith))
 
     start : (known : List ℕ) → length known ≡ L → FactsKnown fs known (length known) → Here (state known relations given) (fact-kinds (map (relation-of facts query) fs))
     start known l k = record { long = l; knows = fact-codes known l k; named = refl; room = room; few = given-few }
@@ -139,8 +138,8 @@ module _ (facts query : Text) (tokens ids relations : List ℕ) (given L : ℕ) 
         rw (a, b) refuses
 
   pub resolved : (words known known′ relations′ : List ℕ) (r : Named) → length known ≡ L → FactsKnown fs known (length known) → meets (walk tokens ids words (state known relations given)) known′ relations′ r →
-      (ts : List Token) (p : Program) → Parsed query tokens words ts p → OfFacts fs → Resolved facts query tokens ids known′ relations′ r (use-names document-01 (in-program p) (fact-kinds (map (relation-of facts query) fs)))
-  resolved words known known′ relations′ r l k m ts p parsed of-facts =
+      (ts : List Token) (p : Program) → Parsed query tokens words ts p → Resolved facts query tokens ids known′ relations′ r (use-names document-01 (in-program p) (fact-kinds (map (relation-of facts query) fs)))
+  resolved words known known′ relations′ r l k m ts p parsed =
       let shows : Shows ts words (in-program p) = rw (parsed .flat) (program-uses ts (parsed .few) p 0 (omega (arith, parsed .small)) (parsed .own)) in
-      conclude ts (parsed .stand) of-facts (walk tokens ids words (state known relations given)) (use-names document-01 (in-program p) (fact-kinds (map (relation-of facts query) fs))) r known′ relations′
-      (walk-uses facts query tokens ids ts (parsed .stand) L tell-apart inside (state known relations given) _ shows (start ts (parsed .stand) of-facts known l k)) m
+      conclude ts (parsed .stand) (walk tokens ids words (state known relations given)) (use-names document-01 (in-program p) (fact-kinds (map (relation-of facts query) fs))) r known′ relations′
+      (walk-uses facts query tokens ids ts (parsed .stand) L tell-apart inside (state known relations given) _ shows (start ts (parsed .stand) known l k)) m

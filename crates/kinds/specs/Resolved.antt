@@ -13,7 +13,8 @@ use Rattle.definition.specs.Answer.{Answer, ok, refused, number, place}
 use Rattle.definition.specs.declared.Refusal.{Refusal}
 use Rattle.words.specs.Raw.{size-program, flat-program}
 use Rattle.words.specs.Tokens.{OwnProgram}
-use Rattle.intern.specs.Entries.{text-at, Stand, relation-of}
+use Rattle.facts.specs.Words.{relation-of}
+use Rattle.intern.specs.Entries.{text-at, Stand}
 use Rattle.kinds.specs.Walk.{known-of, relation-code}
 use Rattle.kinds.specs.declared.Named.{Named}
 use Rattle.kinds.specs.declared.Named.the-variants.{Done, Refused}
@@ -45,7 +46,3 @@ fact-code relations i = cond (ltb i (length relations)) (relation-code i (getD r
 
 abbrev pub FactsKnown : List ℕ → List ℕ → ℕ → Type 0
 FactsKnown relations known n = (i : ℕ) → i < n → getD known i 0 ≡ fact-code relations i
-
--- the relations' words are those of facts
-abbrev pub OfFacts : List ℕ → Type 0
-OfFacts relations = (i : ℕ) → i < length relations → getD relations i 0 / 4 % 16 ≡ 0

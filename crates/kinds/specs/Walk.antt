@@ -68,7 +68,7 @@ pub data Walked : Type 0 where
 
 -- the word of a relation of n terms that is first named by the token w
 abbrev pub relation-word : ℕ → ℕ → ℕ
-relation-word w n = w / 64 * 64 + 4 + n
+relation-word w n = w / 4096 * 512 + w / 64 % 64 * 8 + 4 + n
 
 -- a rule at the token w, whose name has the number j
 abbrev pub apply : State → ℕ → ℕ → Rule → Walked

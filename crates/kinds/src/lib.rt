@@ -8,8 +8,8 @@ ghost use Rattle.definition.specs.Limits.{document-01};
 ghost use Rattle.definition.specs.Token.{Token};
 ghost use Rattle.definition.specs.Syntax.{Program};
 ghost use Rattle.definition.specs.Names.{in-program, use-names, fact-kinds};
-ghost use Rattle.intern.specs.Entries.{relation-of};
-ghost use Rattle.kinds.specs.Resolved.{Parsed, Resolved, fact-code, FactsKnown, OfFacts};
+ghost use Rattle.facts.specs.Words.{relation-of};
+ghost use Rattle.kinds.specs.Resolved.{Parsed, Resolved, fact-code, FactsKnown};
 ghost use Rattle.kinds.specs.Walk.{relation-rule, attribute-rule, variable-rule, bind-rule, enter-rule, leave-rule, rule-of, State, state, use-at, step, walk, meets};
 use definition::Refusal;
 
@@ -34,6 +34,14 @@ fn word_at(s: &[u64], i: usize) -> u64
 }
 
 fn put_at(s: &mut [u64], i: usize, v: u64)
+    ensures { λ _. ⌜ now (s .exit) ≡ set (now (s .entry)) i v ⌝ }
+{
+    if i < s.len() {
+        s[i] = v;
+    }
+}
+
+fn put_relation(s: &mut [usize], i: usize, v: usize)
     ensures { λ _. ⌜ now (s .exit) ≡ set (now (s .entry)) i v ⌝ }
 {
     if i < s.len() {
@@ -145,7 +153,7 @@ fn use_at(
     tokens: &[u64],
     ids: &[u64],
     known: &mut [u64],
-    relations: &mut [u64],
+    relations: &mut [usize],
     count: usize,
     role: u64,
     t: usize,
@@ -169,7 +177,11 @@ fn use_at(
                 return Named::Refused(Refusal::TooManyRelations(at));
             }
             put_at(known, j, 4 + (count as u64) * 4 + m);
-            put_at(relations, count, w / 64 * 64 + 4 + m);
+            put_relation(
+                relations,
+                count,
+                at * 512 + (w / 64 % 64) as usize * 8 + 4 + m as usize,
+            );
             Named::Done(count + 1)
         }
         Rule::Kind => Named::Refused(Refusal::Kind(at)),
@@ -182,7 +194,7 @@ fn use_word(
     tokens: &[u64],
     ids: &[u64],
     known: &mut [u64],
-    relations: &mut [u64],
+    relations: &mut [usize],
     count: usize,
     w: u64,
 ) -> Named
@@ -214,7 +226,7 @@ fn use_all(
     tokens: &[u64],
     ids: &[u64],
     known: &mut [u64],
-    relations: &mut [u64],
+    relations: &mut [usize],
     given: usize,
 ) -> Named
     requires { ⌜ given ≤ 16 ⌝ }
@@ -234,16 +246,16 @@ fn use_all(
 }
 
 // What is known before the walk of the name with the number i: "facts come first".
-fn fact_code(relations: &[u64], i: usize) -> u64
+fn fact_code(relations: &[usize], i: usize) -> u64
     ensures { λ r. ⌜ r ≡ fact-code (now (relations .entry)) i ⌝ }
 {
     if i < relations.len() {
-        return 4 + (i as u64) * 4 + relations[i] % 4;
+        return 4 + (i as u64) * 4 + (relations[i] % 4) as u64;
     }
     0
 }
 
-fn know_facts(relations: &[u64], known: &mut [u64])
+fn know_facts(relations: &[usize], known: &mut [u64])
     ensures { λ _. ⌜ FactsKnown (now (relations .entry)) (now (known .exit)) (length (now (known .exit))) ⌝ }
 {
     let mut i: usize = 0;
@@ -261,12 +273,12 @@ pub fn resolve<'a>(
     words: &[u64],
     ids: &mut [u64],
     known: &mut [u64],
-    relations: &mut [u64],
+    relations: &mut [usize],
     given: usize,
 ) -> Named
     requires { ⌜ (given ≤ 16) × (length (now relations) ≡ 16) ⌝ }
     requires { ⌜ (length (now tokens) ≤ length (now ids)) × (given + length (now tokens) ≤ length (now known)) ⌝ }
-    ensures { λ r. ⌜ ((ts : List Token) (p : Program) → Parsed (now (query .entry)) (now (tokens .entry)) (now (words .entry)) ts p → OfFacts (take given (now (relations .entry))) → Resolved (now (facts .entry)) (now (query .entry)) (now (tokens .entry)) (now (ids .exit)) (now (known .exit)) (now (relations .exit)) r (use-names document-01 (in-program p) (fact-kinds (map (relation-of (now (facts .entry)) (now (query .entry))) (take given (now (relations .entry))))))) ⌝ }
+    ensures { λ r. ⌜ ((ts : List Token) (p : Program) → Parsed (now (query .entry)) (now (tokens .entry)) (now (words .entry)) ts p → Resolved (now (facts .entry)) (now (query .entry)) (now (tokens .entry)) (now (ids .exit)) (now (known .exit)) (now (relations .exit)) r (use-names document-01 (in-program p) (fact-kinds (map (relation-of (now (facts .entry)) (now (query .entry))) (take given (now (relations .entry))))))) ⌝ }
 {
     intern::intern(facts, query, &relations[..given], tokens, ids);
     know_facts(&relations[..given], known);

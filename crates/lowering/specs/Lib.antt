@@ -1,2 +1,4 @@
--- The lowered word of each raw word, field by field, and what a part of the lowered words holds.
+-- The lowered word of each raw word, field by field; what a part of the lowered words holds; and when the arrays that lowering reads agree
+-- with the definition.
 pub mod Lowering
+pub mod Agreement

@@ -8,3 +8,4 @@ pub mod Stops
 pub mod Quiets
 pub mod Acting
 pub mod Goings
+pub mod Placing

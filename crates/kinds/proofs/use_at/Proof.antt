@@ -43,17 +43,23 @@ add-put-at-2 c = omega (arith, fresh-small _ _ _ _ _ (c .before .before .before 
 put-at-requires-2 : tie.Need-put-at-requires-2
 put-at-requires-2 c κs = search needs
 
-mul-put-at-2 : tie.Need-mul-put-at-2
-mul-put-at-2 c = search needs
+mul-put-relation : tie.Need-mul-put-relation
+mul-put-relation c = search needs
 
-add-put-at-3 : tie.Need-add-put-at-3
-add-put-at-3 c = search needs
+mul-put-relation-2 : tie.Need-mul-put-relation-2
+mul-put-relation-2 c = search needs
 
-add-put-at-4 : tie.Need-add-put-at-4
-add-put-at-4 c = omega (arith, fresh-small _ _ _ _ _ (c .before .before .before .before .before .before .before .before .before .judge .ensures) (c .before .before .before .before .before .before .before .a2 .given .1))
+add-put-relation : tie.Need-add-put-relation
+add-put-relation c = search needs
 
-put-at-requires-3 : tie.Need-put-at-requires-3
-put-at-requires-3 c κs = search needs
+add-put-relation-2 : tie.Need-add-put-relation-2
+add-put-relation-2 c = search needs
+
+add-put-relation-3 : tie.Need-add-put-relation-3
+add-put-relation-3 c = omega (arith, fresh-small _ _ _ _ _ (c .before .before .before .before .before .before .before .before .before .judge .ensures) (c .before .before .before .before .before .before .before .a2 .given .1))
+
+put-relation-requires : tie.Need-put-relation-requires
+put-relation-requires c κs = search needs
 
 add-t34 : tie.Need-add-t34
 add-t34 c = search needs
@@ -77,7 +83,7 @@ same-length-4 : tie.Need-same-length-4
 same-length-4 c = search needs
 
 returns-3 : tie.Need-returns-3
-returns-3 c = (use-fresh _ _ _ _ _ _ _ _ _ _ _ _ (c .before .before .before .before .before .before .before .before .before .before .before .before .before .before .before .before .word-at .ensures) (c .before .before .before .before .before .before .before .before .before .before .before .before .before .before .before .word-at2 .ensures) (c .before .before .before .before .before .before .before .before .before .before .before .before .before .word-at3 .ensures) (c .before .before .before .before .before .before .before .before .before .before .before .before .judge .ensures) _ _ _ (c .before .before .before .before .before .before .before .before .before .before .a2 .given .1) (c .before .before .before .before .before .before .before .before .if1 .left) (c .before .before .before .before .before .before .put-at2 .ensures) (c .before .before .put-at3 .ensures), omega arith)
+returns-3 c = (use-fresh _ _ _ _ _ _ _ _ _ _ _ _ (c .before .before .before .before .before .before .before .before .before .before .before .before .before .before .before .before .word-at .ensures) (c .before .before .before .before .before .before .before .before .before .before .before .before .before .before .before .word-at2 .ensures) (c .before .before .before .before .before .before .before .before .before .before .before .before .before .word-at3 .ensures) (c .before .before .before .before .before .before .before .before .before .before .before .before .judge .ensures) _ _ _ (c .before .before .before .before .before .before .before .before .before .before .a2 .given .1) (c .before .before .before .before .before .before .before .before .if1 .left) (c .before .before .before .before .before .before .put-at2 .ensures) (c .before .before .put-relation .ensures), omega arith)
 
 same-length-5 : tie.Need-same-length-5
 same-length-5 c = search needs
@@ -108,10 +114,12 @@ use-at-spec =
     add-put-at
     add-put-at-2
     put-at-requires-2
-    mul-put-at-2
-    add-put-at-3
-    add-put-at-4
-    put-at-requires-3
+    mul-put-relation
+    mul-put-relation-2
+    add-put-relation
+    add-put-relation-2
+    add-put-relation-3
+    put-relation-requires
     add-t34
     enum-told
     enum-told-2

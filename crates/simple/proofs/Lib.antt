@@ -1,0 +1,4 @@
+-- Laws of assignments, items and PRINT.
+pub mod LeftLaws
+pub mod AssignLaws
+pub mod ItemLaws

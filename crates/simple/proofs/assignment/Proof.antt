@@ -1,0 +1,137 @@
+use native.Mathlib.Omega.{arith}
+use mathlib.Core.Path.{_≡_, refl, sym, ap, subst, _∙_}
+use Prim.Native.Nat.{ℕ, _+_, _-_}
+use lib.ListN.{length, length-set}
+use Rattle.simple.proofs.AssignLaws.{assign-open, assign-unlisted, assign-unended, assign-alone, assign-ends, finish-room}
+use Rattle.simple.specs.Statements.{IsStatement}
+use Rattle.terms.specs.declared.Answer.the-variants.{Read}
+use Rattle.terms.proofs.AtomLaws.{listed-of}
+use Rattle.terms.proofs.TokenLaws.{kind-within}
+use borrow.Author.Needs.{needs}
+use Rattle.simple.proofs.assignment.Statement.{statement}
+use Rattle.simple.proofs.assignment.Tie as tie
+use Rattle.simple.proofs.assignment.Reads as reads
+use Rattle.simple.proofs.assignment.Lts as lts
+use Rattle.expressions.proofs.comparison.Reads as comparison-reads
+use Rattle.simple.proofs.assertion.Reads as assertion-reads
+use Rattle.simple.proofs.finish.Reads as finish-reads
+use Rattle.terms.proofs.kind_at.Reads as kind-at-reads
+use Rattle.terms.proofs.list.Reads as list-reads
+use Rattle.words.proofs.pack.Reads as pack-reads
+
+add-kind-at : tie.Need-add-kind-at
+add-kind-at c = search needs
+
+kind-at-requires : tie.Need-kind-at-requires
+kind-at-requires c κs = search needs
+
+add-t15 : tie.Need-add-t15
+add-t15 c = search needs
+
+returns : tie.Need-returns
+returns c = assign-open _ _ _ _ _ (c .before .before .before .before .pre .0) (omega arith) (λ e. c .if1 .taken (c .before .kind-at .ensures ∙ e))
+
+add-list : tie.Need-add-list
+add-list c = search needs
+
+add-list-2 : tie.Need-add-list-2
+add-list-2 c = search needs
+
+list-requires : tie.Need-list-requires
+list-requires c κs = let l = kind-within (c .before .before .before .before .before .args .tokens .now) (c .before .before .before .before .before .args .p + 1) (omega (arith, c .before .before .kind-at .ensures)) in omega arith
+
+enum-known-a : tie.Need-enum-known-a
+enum-known-a c = search needs
+
+enum-told : tie.Need-enum-told
+enum-told c = search needs
+
+same-length : tie.Need-same-length
+same-length c = search needs
+
+returns-2 : tie.Need-returns-2
+returns-2 c = assign-unlisted _ _ _ _ _ (c .before .before .before .before .before .before .before .before .before .before .pre .0) (omega arith) (sym (c .before .before .before .before .before .before .before .kind-at .ensures) ∙ c .before .before .before .before .before .before .if1 .left) (c .before .before .before .before .list .ensures) (c .enum-told .given .1)
+
+sub-pack : tie.Need-sub-pack
+sub-pack c = let u = listed-of (c .before .before .before .before .before .list .ensures) (c .before .a .given .1) in omega arith
+
+sub-pack-2 : tie.Need-sub-pack-2
+sub-pack-2 c = let u = listed-of (c .before .before .before .before .before .list .ensures) (c .before .a .given .1) in omega arith
+
+pack-requires : tie.Need-pack-requires
+pack-requires c κs = let u = listed-of (c .before .before .before .before .before .list .ensures) (c .before .a .given .1) in omega arith
+
+mul-words : tie.Need-mul-words
+mul-words c = search needs
+
+slice-write-words : tie.Need-slice-write-words
+slice-write-words c = let u = listed-of (c .before .before .before .before .before .before .list .ensures) (c .before .before .a .given .1) in omega arith
+
+kind-at-requires-2 : tie.Need-kind-at-requires-2
+kind-at-requires-2 c κs = search needs
+
+assertion-requires : tie.Need-assertion-requires
+assertion-requires c κs = let u = listed-of (c .before .before .before .before .before .before .before .before .before .list .ensures) (c .before .before .before .before .before .a .given .1) in let l = kind-within (c .before .before .before .before .before .before .before .before .before .before .before .before .before .before .before .args .tokens .now) (c .before .before .before .before .before .a .given .0 .0) (omega (arith, c .before .before .kind-at2 .ensures)) in record { order = omega arith; room = simp length-set (omega arith); tokens = omega arith; places = c .before .before .before .before .before .before .before .before .before .before .before .before .before .before .before .pre .1 .0; inside = omega arith; small = omega arith }
+
+add-t25 : tie.Need-add-t25
+add-t25 c = let u = listed-of (c .before .before .before .before .before .before .before .before .before .before .before .before .list .ensures) (c .before .before .before .before .before .before .before .before .a .given .1) in omega arith
+
+same-length-2 : tie.Need-same-length-2
+same-length-2 c = c .before .before .assertion .kept .1 .0 ∙ length-set (c .before .before .before .before .before .before .before .before .before .before .before .before .list .last .1 .0) (c .before .before .before .before .before .before .before .before .before .before .before .before .before .before .before .before .before .before .args .n) (c .before .before .before .before .before .before .pack .result) ∙ c .before .before .before .before .before .before .before .before .before .before .before .before .list .kept .1 .0
+
+returns-3 : tie.Need-returns-3
+returns-3 c = assign-alone _ _ _ _ _ (c .before .before .before .before .before .before .before .before .before .before .before .before .before .before .before .before .before .before .pre .0) (omega arith) (sym (c .before .before .before .before .before .before .before .before .before .before .before .before .before .before .before .kind-at .ensures) ∙ c .before .before .before .before .before .before .before .before .before .before .before .before .before .before .if1 .left) (c .before .before .before .before .before .before .before .before .before .before .before .before .list .ensures) (c .before .before .before .before .before .before .before .before .a .given .1) (c .before .before .before .before .before .before .pack .ensures) (sym (c .before .before .before .before .before .kind-at2 .ensures) ∙ c .before .before .before .before .if2 .taken) (c .before .before .assertion .ensures .0) (c .before .before .assertion .ensures .1)
+
+same-length-3 : tie.Need-same-length-3
+same-length-3 c = search needs
+
+returns-4 : tie.Need-returns-4
+returns-4 c = assign-unended _ _ _ _ _ (c .before .before .before .before .before .before .before .before .before .before .before .before .before .before .before .pre .0) (omega arith) (sym (c .before .before .before .before .before .before .before .before .before .before .before .before .kind-at .ensures) ∙ c .before .before .before .before .before .before .before .before .before .before .before .if1 .left) (c .before .before .before .before .before .before .before .before .before .list .ensures) (c .before .before .before .before .before .a .given .1) (c .before .before .before .pack .ensures) (λ e. c .before .if2 .left (c .before .before .kind-at2 .ensures ∙ e)) (λ e. c .if3 .taken (c .before .before .kind-at2 .ensures ∙ e))
+
+add-comparison : tie.Need-add-comparison
+add-comparison c = let u = listed-of (c .before .before .before .before .before .before .before .before .before .before .list .ensures) (c .before .before .before .before .before .before .a .given .1) in omega arith
+
+comparison-requires : tie.Need-comparison-requires
+comparison-requires c κs = let u = listed-of (c .before .before .before .before .before .before .before .before .before .before .list .ensures) (c .before .before .before .before .before .before .a .given .1) in let l = kind-within (c .before .before .before .before .before .before .before .before .before .before .before .before .before .before .before .before .args .tokens .now) (c .before .before .before .before .before .before .a .given .0 .0) (omega (arith, c .before .before .before .kind-at2 .ensures, c .before .if3 .left)) in simp length-set (omega arith)
+
+finish-requires : tie.Need-finish-requires
+finish-requires c κs = let u = listed-of (c .before .before .before .before .before .before .before .before .before .before .before .before .before .before .list .ensures) (c .before .before .before .before .before .before .before .before .before .before .a .given .1) in let l = kind-within (c .before .before .before .before .before .before .before .before .before .before .before .before .before .before .before .before .before .before .before .before .args .tokens .now) (c .before .before .before .before .before .before .before .before .before .before .a .given .0 .0) (omega (arith, c .before .before .before .before .before .before .before .kind-at2 .ensures, c .before .before .before .before .before .if3 .left)) in finish-room (c .before .before .before .before .before .before .before .before .before .before .before .before .before .before .before .before .before .before .before .before .pre .1 .0) (omega arith) (omega arith) (omega arith) (c .before .before .before .comparison .ensures) (omega arith) (omega (arith, c .before .before .before .comparison .kept .1 .0, length-set (c .before .before .before .before .before .before .before .before .before .before .before .before .before .before .list .last .1 .0) (c .before .before .before .before .before .before .before .before .before .before .before .before .before .before .before .before .before .before .before .before .args .n) (c .before .before .before .before .before .before .before .before .pack .result), c .before .before .before .before .before .before .before .before .before .before .before .before .before .before .list .kept .1 .0))
+
+same-length-4 : tie.Need-same-length-4
+same-length-4 c = c .before .before .finish .kept .1 .0 ∙ c .before .before .before .before .before .before .comparison .kept .1 .0 ∙ length-set (c .before .before .before .before .before .before .before .before .before .before .before .before .before .before .before .before .before .list .last .1 .0) (c .before .before .before .before .before .before .before .before .before .before .before .before .before .before .before .before .before .before .before .before .before .before .before .args .n) (c .before .before .before .before .before .before .before .before .before .before .before .pack .result) ∙ c .before .before .before .before .before .before .before .before .before .before .before .before .before .before .before .before .before .list .kept .1 .0
+
+returns-5 : tie.Need-returns-5
+returns-5 c = assign-ends _ _ _ _ _ (c .before .before .before .before .before .before .before .before .before .before .before .before .before .before .before .before .before .before .before .before .before .before .before .pre .0) (c .before .before .before .before .before .before .before .before .before .before .before .before .before .before .before .before .before .before .before .before .before .before .before .pre .1 .1 .nest) (sym (c .before .before .before .before .before .before .before .before .before .before .before .before .before .before .before .before .before .before .before .before .kind-at .ensures) ∙ c .before .before .before .before .before .before .before .before .before .before .before .before .before .before .before .before .before .before .before .if1 .left) (c .before .before .before .before .before .before .before .before .before .before .before .before .before .before .before .before .before .list .ensures) (c .before .before .before .before .before .before .before .before .before .before .before .before .before .a .given .1) (c .before .before .before .before .before .before .before .before .before .before .before .pack .ensures) (sym (c .before .before .before .before .before .before .before .before .before .before .kind-at2 .ensures) ∙ c .before .before .before .before .before .before .before .before .if3 .left) (c .before .before .before .before .before .before .comparison .ensures) (c .before .before .finish .ensures)
+
+pub assignment-spec : {M : Type 1} → statement M
+assignment-spec =
+    tie.close
+    (tie.spec
+    add-kind-at
+    kind-at-requires
+    add-t15
+    returns
+    add-list
+    add-list-2
+    list-requires
+    enum-known-a
+    enum-told
+    same-length
+    returns-2
+    sub-pack
+    sub-pack-2
+    pack-requires
+    mul-words
+    slice-write-words
+    kind-at-requires-2
+    assertion-requires
+    add-t25
+    same-length-2
+    returns-3
+    same-length-3
+    returns-4
+    add-comparison
+    comparison-requires
+    finish-requires
+    same-length-4
+    returns-5)

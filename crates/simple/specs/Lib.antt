@@ -1,0 +1,2 @@
+-- What the functions that read statements answer.
+pub mod Statements
