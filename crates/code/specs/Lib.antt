@@ -1,0 +1,3 @@
+-- The lowered words of a program, statement by statement.
+pub mod Statements
+pub mod Program

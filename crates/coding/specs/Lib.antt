@@ -1,0 +1,2 @@
+-- The pass that lowers the words of a program, statement by statement.
+pub mod Pass

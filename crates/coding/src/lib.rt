@@ -1,0 +1,1 @@
+// Lowers the words of a whole program.
