@@ -1,13 +1,16 @@
 -- The lexer's words are the tokens that they hold.
 use Prim.Native.Nat.{ℕ, zero, suc, _+_, _/_, _%_, _<_}
 use mathlib.Core.Path.{_≡_, refl, sym, ap, _∙_}
+use mathlib.Core.Bool.{Bool, true, false}
 use mathlib.Core.List.{List, [], _∷_}
 use native.Mathlib.Omega.{arith}
+use borrow.Author.Tests.{eqb-true}
+use lib.Dec.{eqb, ltb}
 use lib.ListN.{length, getD}
-use Rattle.definition.specs.Text.{Text}
+use Rattle.definition.specs.Text.{if_then_else_, Text}
 use Rattle.definition.specs.Token as Token
 use Rattle.definition.specs.Token.{Terminal, Token, token-at}
-use Rattle.lexer.specs.Tokens.{quote-of, terminal-of, token-of, tokens-of}
+use Rattle.lexer.specs.Tokens.{FIRST-SIGN, NAME, sign-of, quote-of, terminal-of, token-of, tokens-of}
 use Rattle.intern.specs.Entries.{QUOTED, text-at, Stand}
 
 length-tokens : (query : Text) (i : ℕ) (ws : List ℕ) → length (tokens-of query i ws) ≡ length ws
@@ -32,6 +35,18 @@ no-name i j w e q =
     let z : _≡_ {A = ℕ} 0 1 = cc in
     omega arith
 
+-- a string's token is quoted: every other kind gives another terminal
+a-string : (i j w : ℕ) → terminal-of (w % 64) i ≡ Token.string j → w % 64 ≡ QUOTED
+unfolding terminal-of
+a-string i j w e = go (ltb (w % 64) FIRST-SIGN) (eqb (w % 64) NAME) (eqb (w % 64) QUOTED) refl e
+  where
+    go : (a b c : Bool) → eqb (w % 64) QUOTED ≡ c → (if a then (Token.key (w % 64)) else if b then (Token.name i) else if c then (Token.string i) else (Token.sign (sign-of (w % 64)))) ≡ Token.string j
+        → w % 64 ≡ QUOTED
+    go true b c h e = let z : _≡_ {A = ℕ} 0 1 = cc in absurd (omega arith)
+    go false true c h e = let z : _≡_ {A = ℕ} 0 1 = cc in absurd (omega arith)
+    go false false true h e = eqb-true (w % 64) QUOTED h
+    go false false false h e = let z : _≡_ {A = ℕ} 0 1 = cc in absurd (omega arith)
+
 -- the tokens of a query stand in the lexer's words
 pub lexed-stand : (query : Text) (ws : List ℕ) → Stand query ws (tokens-of query 0 ws)
 lexed-stand query ws =
@@ -40,4 +55,5 @@ lexed-stand query ws =
       texts = λ i h. ap (λ (t : Token). t .text) (token-there query 0 i ws h) ∙ text-there query (0 + i) (getD ws i 0);
       places = λ i h. ap (λ (t : Token). t .at) (token-there query 0 i ws h);
       names = λ i h e. no-name (0 + i) i (getD ws i 0) (sym (ap (λ (t : Token). t .terminal) (token-there query 0 i ws h)) ∙ e);
+      strings = λ i h e. a-string (0 + i) i (getD ws i 0) (sym (ap (λ (t : Token). t .terminal) (token-there query 0 i ws h)) ∙ e);
     }

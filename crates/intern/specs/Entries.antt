@@ -26,3 +26,4 @@ pub record Stand (query : Text) (ws : List ℕ) (ts : List Token) : Type 0 where
   pub texts : (i : ℕ) → i < length ws → token-at ts i .text ≡ text-at query (getD ws i 0)
   pub places : (i : ℕ) → i < length ws → token-at ts i .at ≡ getD ws i 0 / 4096
   pub names : (i : ℕ) → i < length ws → token-at ts i .terminal ≡ Token.name i → getD ws i 0 % 64 ≡ QUOTED → ⊥
+  pub strings : (i : ℕ) → i < length ws → token-at ts i .terminal ≡ Token.string i → getD ws i 0 % 64 ≡ QUOTED
