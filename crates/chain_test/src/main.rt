@@ -1,0 +1,135 @@
+// Prints the chains found over worked facts: a line for each, with the count and the numbers, or the row and the place of the refusal; then
+// how many bytes of the buffer are as they were.
+ghost use Prim.Native.Nat.{_≤_};
+use chain::chain;
+use definition::Chained;
+use definition::Refusal;
+use libc::STDOUT_FILENO;
+
+fn say(text: &[u8]) {
+    io::write_all(STDOUT_FILENO, text);
+}
+
+fn say_number(n: u64) {
+    io::print_decimal(STDOUT_FILENO, n);
+}
+
+fn show_refusal(row: u64, at: usize) {
+    say(b"refused ");
+    say_number(row);
+    say(b" ");
+    say_number(at as u64);
+}
+
+fn show_why(why: Refusal) {
+    match why {
+        Refusal::FactName(p) => show_refusal(3, p),
+        Refusal::Arity(p) => show_refusal(5, p),
+        Refusal::NotInFacts => show_refusal(15, 0),
+        Refusal::BufferShort => show_refusal(16, 0),
+        Refusal::NoChain => show_refusal(17, 0),
+        _ => show_refusal(0, 0),
+    }
+}
+
+// A byte that is not 255, or how many are.
+fn show_byte(x: u8) -> usize
+    ensures { λ r. ⌜ r ≤ 1 ⌝ }
+{
+    if x == 255 {
+        return 1;
+    }
+    say(b" ");
+    say_number(x as u64);
+    0
+}
+
+// The bytes that are not 255, and how many are.
+fn show_bytes(buffer: &[u8]) {
+    let mut stayed: usize = 0;
+    let mut i = 0;
+    while i < buffer.len() {
+        stayed += show_byte(buffer[i]);
+        i += 1;
+    }
+    say(b", ");
+    say_number(stayed as u64);
+    say(b"\n");
+}
+
+// The chain with a buffer whose bytes are 255.
+fn show_in(facts: &[u8], name: &[u8], first: &[u8], second: &[u8], buffer: &mut [u8]) {
+    match chain(facts, name, first, second, buffer) {
+        Chained::Chain(count) => say_number(count as u64),
+        Chained::Refused(why) => show_why(why),
+    }
+    show_bytes(buffer);
+}
+
+fn show(facts: &[u8], name: &[u8], first: &[u8], second: &[u8]) {
+    let mut buffer = [255u8; 65];
+    show_in(facts, name, first, second, &mut buffer);
+}
+
+// One byte too few.
+fn show_short(facts: &[u8], name: &[u8], first: &[u8], second: &[u8]) {
+    let mut buffer = [255u8; 64];
+    show_in(facts, name, first, second, &mut buffer);
+}
+
+// Facts F of document 01: B7, C10, C2, C5 are 0 to 3, and only one way leads from B7 to C2.
+fn worked(f: &[u8]) {
+    show(f, b"On", b"B7", b"C2");
+    show(f, b"On", b"C5", b"C2");
+}
+
+// Row 15: no such relation, not a binary one, an element not in the facts.
+fn not_there(f: &[u8]) {
+    show(f, b"Under", b"B7", b"C2");
+    show(f, b"Held", b"B7", b"B7");
+    show(f, b"On", b"B8", b"C2");
+    show(f, b"On", b"B7", b"");
+    show_short(f, b"On", b"B7", b"C1");
+}
+
+// Row 16, before 17.
+fn short(f: &[u8]) {
+    show_short(f, b"On", b"B7", b"C2");
+    show_short(f, b"On", b"C2", b"B7");
+}
+
+// Row 17: no way back, and no way from an element to itself without a cycle.
+fn none(f: &[u8]) {
+    show(f, b"On", b"C2", b"B7");
+    show(f, b"On", b"C5", b"C5");
+}
+
+// Back to the first element: round a cycle of three, and a pair of an element with itself. Quotes are no part of a value.
+fn cycles() {
+    let round: &[u8] = b"R a \"b c\"\nR \"b c\" d\nS d a\nR d a\nR e \"e\"\nR d d";
+    show(round, b"R", b"a", b"a");
+    show(round, b"R", b"b c", b"d");
+    show(round, b"R", b"e", b"e");
+    show(round, b"R", b"d", b"d");
+    show(round, b"R", b"a", b"e");
+    show(round, b"S", b"d", b"a");
+}
+
+// The facts come first, and nothing after the dot is read.
+fn refused() {
+    show_short(b"On a b\nOn", b"R", b"a", b"c");
+    show_short(b"On a b\n On b c", b"On", b"a", b"c");
+    show(b"On a b\n.\nOn b c", b"On", b"a", b"b");
+    show(b"On a b\n.\nOn b c", b"On", b"a", b"c");
+    show(b"", b"On", b"a", b"a");
+}
+
+fn main() {
+    let f: &[u8] = b"On C10 C5\nOn C5 C2\nOn B7 C10\nHeld B7";
+    worked(f);
+    not_there(f);
+    short(f);
+    none(f);
+    cycles();
+    refused();
+}
