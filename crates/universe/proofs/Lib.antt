@@ -1,0 +1,3 @@
+-- Laws over plain lists.
+pub mod LeftStrings
+pub mod Entering
