@@ -1,6 +1,6 @@
 -- The strings on left-hand sides stand in the words of a program in its order.
 use Prim.Native.Nat.{ℕ, _+_, _-_, _/_, _%_, _<_, _≤_}
-use mathlib.Core.Path.{_≡_, refl, sym, ap, ap₂, _∙_}
+use mathlib.Core.Path.{_≡_, refl, sym, ap, ap₂, subst, _∙_}
 use mathlib.Core.Bool.{Bool, true, false, cond}
 use mathlib.Core.List.{List, [], _∷_, _++_, map}
 use native.Mathlib.Omega.{arith}
@@ -19,26 +19,48 @@ use Rattle.words.specs.Raw.{number, leaf, leaves, size, flat, size-item, flat-i
 use Rattle.words.specs.Tokens.{OwnString, OwnTerms, OwnProgram}
 use Rattle.words.proofs.FieldLaws.{kind-word, p-word}
 use Rattle.intern.specs.Entries.{QUOTED, text-at, Stand}
+use Rattle.lexer.specs.Tokens.{start-of, size-of, quote-of, Inside}
 use Rattle.kinds.specs.Resolved.{Parsed}
 use Rattle.universe.specs.Strings.{LEFT-STRING, string-element, left-tokens}
 
+-- the text of each of some strings' tokens lies within the query
+unfoldable pub Fits : Text → List ℕ → Type 0
+Fits query [] = Unit {0}
+Fits query (t ∷ ts) = (t / 4096 + 1 + t / 64 % 64 ≤ length query) × Fits query ts
+
+string-within : (query : Text) (t : ℕ) → t % 64 ≡ QUOTED → start-of t + size-of t ≤ length query → t / 4096 + 1 + t / 64 % 64 ≤ length query
+unfolding quote-of
+string-within query t q h = rw (eq-eqb (t % 64) QUOTED q) at h
+
 module _ (query : Text) (tokens : List ℕ) where
+  -- token i is a string's, and the element e
+  record IsString (i : ℕ) (e : Element) : Type 0 where
+    pub inside : i < length tokens
+    pub quoted : getD tokens i 0 % 64 ≡ QUOTED
+    pub is : string-element query (getD tokens i 0) ≡ e
+
   -- the strings that words show
-  pub data Lefts : List ℕ → List Element → Type 0 where
+  data Lefts : List ℕ → List Element → Type 0 where
     none : Lefts [] []
     other : {w : ℕ} {ws : List ℕ} {es : List Element} → (kind-of w ≡ LEFT-STRING → ⊥) → Lefts ws es → Lefts (w ∷ ws) es
-    one : {w : ℕ} {ws : List ℕ} {e : Element} {es : List Element} → kind-of w ≡ LEFT-STRING → string-element query (getD tokens (p-of w) 0) ≡ e → Lefts ws es → Lefts (w ∷ ws) (e ∷ es)
+    one : {w : ℕ} {ws : List ℕ} {e : Element} {es : List Element} → kind-of w ≡ LEFT-STRING → IsString (p-of w) e → Lefts ws es → Lefts (w ∷ ws) (e ∷ es)
 
   shown : {ws : List ℕ} {es : List Element} → Lefts ws es → map (string-element query) (left-tokens tokens ws) ≡ es
   unfolding left-tokens
   shown none = refl
   shown (other {w} h s) = rw (ne-eqb (kind-of w) LEFT-STRING h) (shown s)
-  shown (one {w} h e s) = rw (eq-eqb (kind-of w) LEFT-STRING h) (ap₂ _∷_ e (shown s))
+  shown (one {w} h o s) = rw (eq-eqb (kind-of w) LEFT-STRING h) (ap₂ _∷_ (o .is) (shown s))
+
+  within : {ws : List ℕ} {es : List Element} → Inside query tokens → Lefts ws es → Fits query (left-tokens tokens ws)
+  unfolding left-tokens Fits
+  within i none = tt
+  within i (other {w} h s) = rw (ne-eqb (kind-of w) LEFT-STRING h) (within i s)
+  within i (one {w} h o s) = rw (eq-eqb (kind-of w) LEFT-STRING h) (string-within query (getD tokens (p-of w) 0) (o .quoted) (i (p-of w) (o .inside)), within i s)
 
   both : {xs ys : List ℕ} {us vs : List Element} → Lefts xs us → Lefts ys vs → Lefts (xs ++ ys) (us ++ vs)
   both none t = t
   both (other h s) t = other h (both s t)
-  both (one h e s) t = one h e (both s t)
+  both (one h o s) t = one h o (both s t)
 
   -- a word of no such string
   skip : (k p q r : ℕ) {xs : List ℕ} {es : List Element} → (k ≡ LEFT-STRING → ⊥) → k < 256 → Lefts xs es → Lefts (word k p q r ∷ xs) es
@@ -93,17 +115,16 @@ module _ (query : Text) (tokens : List ℕ) where
 
   module _ (ts : List Token) (few : length ts < 65536) (stand : Stand query tokens ts) where
     -- a string's token is the element that the definition speaks of
-    element : (t : Token) → OwnString ts t → string-element query (getD tokens (number t) 0) ≡ record { value = t .text; quoted = true; at = t .at }
+    a-string : (t : Token) → OwnString ts t → IsString (number t) (record { value = t .text; quoted = true; at = t .at })
     unfolding text-at
-    element t o =
+    a-string t o =
         let h : number t < length tokens = omega (arith, o .inside, stand .count) in
-        let x : token-at ts (number t) .text ≡ text-at query (getD tokens (number t) 0) = stand .texts (number t) h in
-        let a : token-at ts (number t) .at ≡ getD tokens (number t) 0 / 4096 = stand .places (number t) h in
         let q : getD tokens (number t) 0 % 64 ≡ QUOTED = stand .strings (number t) h (ap (λ (s : Token). s .terminal) (o .found) ∙ o .is-string) in
         let v : t .text ≡ take (getD tokens (number t) 0 / 64 % 64) (drop (getD tokens (number t) 0 / 4096 + 1) query)
-        = ap (λ (s : Token). s .text) (sym (o .found)) ∙ x ∙ ap (λ (b : Bool). take (getD tokens (number t) 0 / 64 % 64) (drop (getD tokens (number t) 0 / 4096 + cond b 1 0) query)) (eq-eqb (getD tokens (number t) 0 % 64) QUOTED q) in
-        let p : t .at ≡ getD tokens (number t) 0 / 4096 = ap (λ (s : Token). s .at) (sym (o .found)) ∙ a in
-        rw (v, p)
+        = ap (λ (s : Token). s .text) (sym (o .found)) ∙ stand .texts (number t) h
+        ∙ ap (λ (b : Bool). take (getD tokens (number t) 0 / 64 % 64) (drop (getD tokens (number t) 0 / 4096 + cond b 1 0) query)) (eq-eqb (getD tokens (number t) 0 % 64) QUOTED q) in
+        let p : t .at ≡ getD tokens (number t) 0 / 4096 = ap (λ (s : Token). s .at) (sym (o .found)) ∙ stand .places (number t) h in
+        record { inside = h; quoted = q; is = rw (v, p) }
 
     lefts : (ps : List Term) → OwnTerms ts ps → Lefts (leaves ATTRIBUTE ps) (strings ps)
     unfolding leaves strings OwnTerms
@@ -112,7 +133,7 @@ module _ (query : Text) (tokens : List ℕ) where
     lefts (string t ∷ ps) o =
         let f : number t < 65536 = omega (arith, o .0 .inside) in
         one (kind-word (STRING + ATTRIBUTE) (number t) 0 0 (omega arith))
-        (ap (λ (i : ℕ). string-element query (getD tokens i 0)) (p-word (STRING + ATTRIBUTE) (number t) 0 0 (omega arith) f) ∙ element t (o .0))
+        (subst (λ (i : ℕ). IsString i (record { value = t .text; quoted = true; at = t .at })) (sym (p-word (STRING + ATTRIBUTE) (number t) 0 0 (omega arith) f)) (a-string t (o .0)))
         (lefts ps (o .1))
     lefts (anything ∷ ps) o = skip ANYTHING 0 0 0 (λ e. omega arith) (omega arith) (lefts ps (o .1))
 
@@ -148,3 +169,7 @@ module _ (query : Text) (tokens : List ℕ) where
 -- the strings that the words of a parsed program show are those on its left-hand sides
 pub left-strings-shown : (query : Text) (tokens words : List ℕ) (ts : List Token) (p : Program) → Parsed query tokens words ts p → map (string-element query) (left-tokens tokens words) ≡ left-strings p
 left-strings-shown query tokens words ts p h = rw (h .flat) (shown query tokens (program query tokens ts (h .few) (h .stand) p 0 (h .own)))
+
+-- and their texts lie within the query
+pub left-strings-within : (query : Text) (tokens words : List ℕ) (ts : List Token) (p : Program) → Parsed query tokens words ts p → Inside query tokens → Fits query (left-tokens tokens words)
+left-strings-within query tokens words ts p h i = rw (h .flat) (within query tokens i (program query tokens ts (h .few) (h .stand) p 0 (h .own)))

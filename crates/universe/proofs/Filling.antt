@@ -1,0 +1,164 @@
+-- The universe of two accepted texts, as the parts that the facts and the left-hand strings leave: the texts and quotes of its elements, and their first places.
+use Prim.Native.Nat.{ℕ, zero, suc, _<_}
+use mathlib.Core.Path.{_≡_, refl, sym, ap, ap₂, subst, _∙_}
+use mathlib.Core.Bool.{Bool, true, false, _&&_, _||_}
+use mathlib.Core.List.{List, [], _∷_, _++_, map}
+use native.Mathlib.Omega.{arith}
+use borrow.Author.Tests.{lt-ltb}
+use lib.Dec.{eqb}
+use lib.ListN.{length, getD, take}
+use Rattle.definition.specs.Text.{Text, same, some-of, gather}
+use Rattle.definition.specs.Limits.{Limits, document-01}
+use Rattle.definition.specs.Answer.{Answer, ok}
+use Rattle.definition.specs.Token.{Token}
+use Rattle.definition.specs.Syntax.{Program}
+use Rattle.definition.specs.Facts.{Element, Fact, Facts, read-facts, use-elements}
+use Rattle.definition.specs.Names.{left-strings}
+use Rattle.definition.specs.Accept.{Accepted, accept, read-query, elements}
+use Rattle.definition.specs.Calls.{Part, no-part, first-part, element-part}
+use Rattle.definition.specs.Print.{is-quoted}
+use Rattle.definition.proofs.AcceptLaws as AcceptLaws
+use Rattle.definition.proofs.AcceptLaws.{ok-injective}
+use Rattle.definition.proofs.PlaceLaws.{EachElement, no-element, EachFact, no-fact, a-fact, each-append, accepted-facts}
+use Rattle.definition.proofs.UniverseLaws.{Ascending}
+use Rattle.parts.specs.Packed.{tag-of, part-of, text-of}
+use Rattle.parts.specs.Entries.{enter-all, texts-of}
+use Rattle.parts.proofs.HeldLaws.{length-texts, held-take}
+use Rattle.facts.specs.declared.Counts.{Counts}
+use Rattle.facts.specs.declared.FactsRead.the-variants.{Given}
+use Rattle.facts.specs.Words.{element-word, entered, noted}
+use Rattle.facts.specs.Pass.{limits-of, facts-of}
+use Rattle.facts.specs.Reading.{all-facts, Meets}
+use Rattle.lexer.specs.Tokens.{Inside}
+use Rattle.kinds.specs.Resolved.{Parsed}
+use Rattle.lines.specs.Lines.{texts}
+use Rattle.lines.proofs.LineLaws.{Shows}
+use Rattle.universe.specs.Strings.{string-part, string-element, left-tokens, with-strings, WithStrings}
+use Rattle.universe.proofs.LeftStrings.{left-strings-shown, left-strings-within}
+use Rattle.universe.proofs.FirstParts.{part-in, quotes, Small, enter-all-ascending, enter-all-small, part-enter-all, part-at, quotes-enter-all, quotes-at}
+use Rattle.universe.proofs.ElementParts.{Short, elements-in, all-short, words-in, words-small, first-in-facts, quoted-in-facts, strings-small, quoted-by-none, first-in-query}
+
+or-none : (a : Bool) → a || false ≡ a
+or-none true = refl
+or-none false = refl
+
+some-append : {A : Type 0} (p : A → Bool) (xs ys : List A) → some-of p (xs ++ ys) ≡ some-of p xs || some-of p ys
+unfolding some-of
+some-append p [] ys = refl
+some-append p (x ∷ xs) ys = go (p x) (some-append p xs ys)
+  where
+    go : (b : Bool) → some-of p (xs ++ ys) ≡ some-of p xs || some-of p ys → b || some-of p (xs ++ ys) ≡ (b || some-of p xs) || some-of p ys
+    go true e = refl
+    go false e = e
+
+some-gather : (p : Element → Bool) (fs : List Fact) → some-of p (elements-in fs) ≡ some-of (λ f. some-of p (f .elements)) fs
+unfolding some-of gather
+some-gather p [] = refl
+some-gather p (f ∷ fs) = some-append p (f .elements) (elements-in fs) ∙ ap (λ (b : Bool). some-of p (f .elements) || b) (some-gather p fs)
+
+all-elements : {text : Text} {fs : List Fact} → EachFact text fs → EachElement text (elements-in fs)
+unfolding gather
+all-elements no-fact = no-element
+all-elements (a-fact h hs) = each-append (h .elements) (all-elements hs)
+
+texts-at : (facts query : Text) (ws : List ℕ) (n : ℕ) → n < length ws → getD (texts-of facts query ws) n [] ≡ text-of facts query (getD ws n 0)
+texts-at facts query [] n h = absurd (omega arith)
+texts-at facts query (w ∷ ws) zero h = refl
+texts-at facts query (w ∷ ws) (suc n) h = texts-at facts query ws n (omega arith)
+
+module _ (facts query : Text) where
+  -- the universe of w stands in the places
+  pub record Filled (tokens words places : List ℕ) (w : Accepted) : Type 0 where
+    pub accepted : accept document-01 facts query ≡ ok w
+    pub universe : w .universe ≡ texts-of facts query places
+    pub from-facts : w .facts ≡ all-facts facts
+    pub parts : places ≡ with-strings facts query (left-tokens tokens words) (entered facts query (all-facts facts))
+
+  -- after the facts are read and the strings of the program entered
+  pub filled : (rs rs′ us us′ tokens words new : List ℕ) (d : Counts) (c : ℕ) (p : Program) (w : Accepted) → length rs ≡ 16 → length us ≡ 64 → Meets facts query rs rs′ us us′ (Given d)
+      → WithStrings facts query p tokens words us′ new (d .elements) c → read-query query ≡ ok p → accept document-01 facts query ≡ ok w → Filled tokens words (take c new) w
+  filled rs rs′ us us′ tokens words new d c p w r u m s q e =
+      let h = AcceptLaws.parts document-01 facts query w e in
+      let read : read-facts document-01 facts ≡ ok (facts-of facts query (noted facts query (all-facts facts)) (entered facts query (all-facts facts)) (all-facts facts))
+      = ap₂ (λ (i j : ℕ). read-facts (limits-of i j) facts) (sym r) (sym u) ∙ m .0 in
+      let given : h .facts-read ≡ facts-of facts query (noted facts query (all-facts facts)) (entered facts query (all-facts facts)) (all-facts facts) = ok-injective (sym (h .read) ∙ read) in
+      let program : w .program ≡ p = ok-injective (sym (h .query-read) ∙ q) in
+      let before : take (d .elements) us′ ≡ entered facts query (all-facts facts) = held-take (m .2) in
+      record {
+        accepted = e;
+        universe =
+            ok-injective (sym (h .collected)
+            ∙ ap₂ (λ (pr : Program) (xs : List Text). use-elements document-01 (left-strings pr) xs) program (ap (λ (f : Facts). f .universe) given ∙ ap (texts-of facts query) (sym before))
+            ∙ s .universe);
+        from-facts = sym (h .same-facts) ∙ ap (λ (f : Facts). f .facts) given;
+        parts = s .parts ∙ ap (with-strings facts query (left-tokens tokens words)) before;
+      }
+
+  module _ (tokens words places : List ℕ) (w : Accepted) (h : Filled tokens words places w) where
+    pub filled-count : elements w ≡ length places
+    filled-count = ap length (h .universe) ∙ length-texts facts query places
+
+    text-there : (n : ℕ) → n < elements w → text-of facts query (getD places n 0) ≡ getD (w .universe) n []
+    text-there n l = sym (ap (λ (us : List Text). getD us n []) (h .universe) ∙ texts-at facts query places n (omega (arith, filled-count)))
+
+    ascending : Ascending (texts-of facts query places)
+    ascending = subst Ascending (h .universe) (AcceptLaws.universe document-01 facts query w (h .accepted) .ascending)
+
+    located : EachElement facts (elements-in (all-facts facts))
+    located = all-elements (subst (EachFact facts) (h .from-facts) (accepted-facts document-01 facts query w (h .accepted)))
+
+    -- the facts' own parts
+    facts-parts : entered facts query (all-facts facts) ≡ enter-all facts query (map element-word (elements-in (all-facts facts))) []
+    unfolding entered
+    facts-parts = ap (λ (vs : List ℕ). enter-all facts query vs []) (words-in (all-facts facts))
+
+    own-small : Small facts query (map element-word (elements-in (all-facts facts)))
+    own-small = words-small facts query (elements-in (all-facts facts)) (all-short facts)
+
+    facts-small : Small facts query (entered facts query (all-facts facts))
+    unfolding Small
+    facts-small = rw facts-parts (enter-all-small facts query (map element-word (elements-in (all-facts facts))) [] own-small tt)
+
+    quoted-there : (t : Text) → quotes facts query t places ≡ is-quoted w t
+    unfolding is-quoted quotes some-of Small
+    quoted-there t =
+        ap (quotes facts query t) (h .parts)
+        ∙ quotes-enter-all facts query t (map string-part (left-tokens tokens words)) (entered facts query (all-facts facts)) (strings-small facts query (left-tokens tokens words)) facts-small
+        ∙ ap (λ (b : Bool). b || quotes facts query t (entered facts query (all-facts facts))) (quoted-by-none facts query t (left-tokens tokens words))
+        ∙ ap (quotes facts query t) facts-parts
+        ∙ quotes-enter-all facts query t (map element-word (elements-in (all-facts facts))) [] own-small tt
+        ∙ or-none (quotes facts query t (map element-word (elements-in (all-facts facts))))
+        ∙ quoted-in-facts facts query t located (all-short facts)
+        ∙ some-gather (λ e. same t (e .value) && e .quoted) (all-facts facts)
+        ∙ ap (some-of (λ f. some-of (λ e. same t (e .value) && e .quoted) (f .elements))) (sym (h .from-facts))
+
+    -- each element has its text, and its tag says whether some fact quoted it
+    pub filled-shows : Shows w (texts facts query places)
+    filled-shows =
+        record {
+          text = text-there;
+          quoted = λ n l.
+              sym (quotes-at facts query places n ascending (omega (arith, filled-count)))
+              ∙ quoted-there (text-of facts query (getD places n 0))
+              ∙ ap (is-quoted w) (text-there n l);
+        }
+
+    -- and is the part that the element call gives
+    module _ (ts : List Token) (parsed : Parsed query tokens words ts (w .program)) (inside : Inside query tokens) where
+      pub filled-part : (n : ℕ) → n < elements w → part-of (getD places n 0) ≡ element-part w n
+      unfolding element-part part-in
+      filled-part n l =
+          let t = text-of facts query (getD places n 0) in
+          let q : Part = part-in facts query t (map string-part (left-tokens tokens words)) no-part in
+          let first : part-of (getD places n 0) ≡ first-part 0 t (elements-in (all-facts facts)) (first-part 1 t (left-strings (w .program)) no-part)
+          = sym (part-at facts query places n no-part ascending (omega (arith, filled-count)))
+          ∙ ap (λ (ws : List ℕ). part-in facts query t ws no-part) (h .parts)
+          ∙ part-enter-all facts query t (map string-part (left-tokens tokens words)) (entered facts query (all-facts facts)) no-part
+          (subst (λ (ws : List ℕ). Ascending (texts-of facts query ws)) (sym facts-parts) (enter-all-ascending facts query (map element-word (elements-in (all-facts facts))) [] tt))
+          ∙ ap (λ (ws : List ℕ). part-in facts query t ws q) facts-parts
+          ∙ part-enter-all facts query t (map element-word (elements-in (all-facts facts))) [] q tt
+          ∙ first-in-facts facts query t q located (all-short facts)
+          ∙ ap (first-part 0 t (elements-in (all-facts facts)))
+          (first-in-query facts query t (left-tokens tokens words) no-part (left-strings-within query tokens words ts (w .program) parsed inside)
+          ∙ ap (λ (es : List Element). first-part 1 t es no-part) (left-strings-shown query tokens words ts (w .program) parsed)) in
+          first ∙ rw (text-there n l, ← h .from-facts, lt-ltb n (elements w) l)
