@@ -1,16 +1,16 @@
 -- The rows of the chain call's refusals, and what the search in filled rows answers.
-use Prim.Native.Nat.{ℕ, zero, suc, _+_, _<_, _≤_}
+use Prim.Native.Nat.{ℕ, zero, suc, _<_, _≤_}
 use mathlib.Core.Path.{_≡_, refl, sym, ap, ap₂, subst, _∙_}
 use mathlib.Core.Bool.{Bool, true, false, _||_, not}
 use mathlib.Core.List.{List, [], _∷_}
 use native.Mathlib.Omega.{arith}
 use borrow.Author.Tests.{ltb-false, lt-ltb, le-ltb}
-use lib.Dec.{T, eqb, ltb}
+use lib.Dec.{eqb, ltb}
 use lib.ListN.{length, getD, take, replicate}
 use lib.Seq.{length-take-le}
 use Rattle.definition.specs.Text.{Text, some-of}
 use Rattle.definition.specs.Limits.{FACT-BYTES, CHAIN-BYTES, document-01}
-use Rattle.definition.specs.Answer.{Answer, ok, refused, refusal, _>>=_, _>>_, refuse-if}
+use Rattle.definition.specs.Answer.{Answer, ok, refused, _>>_, refuse-if}
 use Rattle.definition.specs.Facts.{Facts, arities, read-facts}
 use Rattle.definition.specs.Calls.{Asked, ChainMeets, numbers-of, chain-asked, chain-meets}
 use Rattle.definition.specs.declared.Chained.{Chained}

@@ -1,17 +1,16 @@
 -- Where a text stands in a list of parts, and its number in the universe of them.
-use Prim.Native.Nat.{ℕ, zero, suc, _+_, _<_, _≤_}
+use Prim.Native.Nat.{ℕ, suc, _+_, _<_, _≤_}
 use mathlib.Core.Path.{_≡_, refl, sym, ap, subst, _∙_}
 use mathlib.Core.Bool.{Bool, true, false, cond, not, _||_}
-use mathlib.Core.List.{List, [], _∷_, map}
+use mathlib.Core.List.{List, [], _∷_}
 use native.Mathlib.Omega.{arith}
 use native.Mathlib.Decide.{decLt}
-use borrow.Author.Tests.{eq-eqb, ne-eqb, lt-ltb, le-ltb}
-use lib.Dec.{T, eqb, ltb}
+use borrow.Author.Tests.{eq-eqb, ne-eqb}
+use lib.Dec.{T, eqb}
 use lib.ListN.{length, getD}
 use Rattle.definition.specs.Text.{Text, same, span, some-of}
 use Rattle.definition.specs.Facts.{arities}
 use Rattle.definition.specs.Meaning.{numbers}
-use Rattle.definition.proofs.BoolLaws.{is-true}
 use Rattle.definition.proofs.UniverseLaws.{Ascending, number-of}
 use Rattle.parts.specs.Packed.{tag-of, text-of}
 use Rattle.parts.specs.Entries.{texts-of}

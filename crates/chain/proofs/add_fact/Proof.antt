@@ -1,6 +1,5 @@
 use borrow.Author.Needs.{needs}
 use mathlib.Core.Path.{sym, ap, _∙_}
-use native.Mathlib.Omega.{arith}
 use Rattle.definition.specs.Text.{Text, same}
 use Rattle.facts.specs.Words.{fact-at}
 use Rattle.chain.specs.Fill.{place}
@@ -8,13 +7,6 @@ use Rattle.chain.proofs.Rows.{fact-other-name, line-other-arity, line-a
 use borrow.Author.Tests.{not-true, not-false}
 use Rattle.chain.proofs.add_fact.Statement.{statement}
 use Rattle.chain.proofs.add_fact.Tie as tie
-use Rattle.chain.proofs.add_fact.Reads as reads
-use Rattle.chain.proofs.add_fact.Lts as lts
-use Rattle.chain.proofs.add_pair.Reads as add-pair-reads
-use Rattle.chain.proofs.place_of.Reads as place-of-reads
-use Rattle.chain.proofs.value_of.Reads as value-of-reads
-use Rattle.parts.proofs.part.Reads as part-reads
-use Rattle.texts.proofs.same.Reads as same-reads
 
 part-requires : tie.Need-part-requires
 part-requires c κs = search needs

@@ -6,9 +6,6 @@ use lib.ListN.{set}
 use Rattle.chain.proofs.Rows.{pair-past-first, pair-past-second, pair-in}
 use Rattle.chain.proofs.add_pair.Statement.{statement}
 use Rattle.chain.proofs.add_pair.Tie as tie
-use Rattle.chain.proofs.add_pair.Reads as reads
-use Rattle.chain.proofs.add_pair.Lts as lts
-use Rattle.bits.proofs.set_bit.Reads as set-bit-reads
 
 returns : tie.Need-returns
 returns c = pair-past-first _ _ _ (omega arith)

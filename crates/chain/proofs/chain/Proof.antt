@@ -4,10 +4,6 @@ use lib.Seq.{length-take-le}
 use Rattle.chain.proofs.Asking.{relations-room, elements-room, are-read, chain-read, chain-refused}
 use Rattle.chain.proofs.chain.Statement.{statement}
 use Rattle.chain.proofs.chain.Tie as tie
-use Rattle.chain.proofs.chain.Reads as reads
-use Rattle.chain.proofs.chain.Lts as lts
-use Rattle.chain.proofs.chain_in.Reads as chain-in-reads
-use Rattle.facts.proofs.read_facts.Reads as read-facts-reads
 
 slice-aggregate-read-facts : tie.Need-slice-aggregate-read-facts
 slice-aggregate-read-facts c = search needs

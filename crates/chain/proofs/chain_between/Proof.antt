@@ -3,10 +3,6 @@ use native.Mathlib.Omega.{arith}
 use Rattle.chain.proofs.Asking.{read-short, between, rows-length}
 use Rattle.chain.proofs.chain_between.Statement.{statement}
 use Rattle.chain.proofs.chain_between.Tie as tie
-use Rattle.chain.proofs.chain_between.Reads as reads
-use Rattle.chain.proofs.chain_between.Lts as lts
-use Rattle.chain.proofs.fill_rows.Reads as fill-rows-reads
-use Rattle.chains.proofs.find_chain.Reads as find-chain-reads
 
 fill-rows-requires : tie.Need-fill-rows-requires
 fill-rows-requires c κs = read-short _ _ (c .before .before .before .before .before .before .pre .0 .1 .read)

@@ -8,11 +8,6 @@ use lib.Seq.{length-take-le}
 use Rattle.chain.proofs.Asking.{no-name, no-first, no-second, no-room, refused-15, refused-16, short-room, no-element, an-element, in-facts, take-zeros}
 use Rattle.chain.proofs.chain_in.Statement.{statement}
 use Rattle.chain.proofs.chain_in.Tie as tie
-use Rattle.chain.proofs.chain_in.Reads as reads
-use Rattle.chain.proofs.chain_in.Lts as lts
-use Rattle.chain.proofs.chain_between.Reads as chain-between-reads
-use Rattle.chain.proofs.is_binary.Reads as is-binary-reads
-use Rattle.chain.proofs.place_of.Reads as place-of-reads
 
 is-binary-requires : tie.Need-is-binary-requires
 is-binary-requires c κs = search needs

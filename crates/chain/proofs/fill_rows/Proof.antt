@@ -2,7 +2,7 @@ use borrow.Author.Needs.{needs}
 use Prim.Native.Nat.{_+_, _-_}
 use mathlib.Core.List.{[]}
 use Rattle.definition.specs.Facts.{Fact}
-use mathlib.Core.Path.{_≡_, refl, sym, ap, subst, _∙_}
+use mathlib.Core.Path.{_≡_, refl, subst}
 use native.Mathlib.Omega.{arith}
 use lib.ListN.{length}
 use Rattle.facts.specs.Reading.{facts-from, all-facts}
@@ -12,10 +12,6 @@ use Rattle.chain.specs.Fill.{fill}
 use Rattle.chain.proofs.Rows.{fill-end, fill-next}
 use Rattle.chain.proofs.fill_rows.Statement.{statement}
 use Rattle.chain.proofs.fill_rows.Tie as tie
-use Rattle.chain.proofs.fill_rows.Reads as reads
-use Rattle.chain.proofs.fill_rows.Lts as lts
-use Rattle.chain.proofs.add_fact.Reads as add-fact-reads
-use Rattle.facts.proofs.next_fact.Reads as next-fact-reads
 
 abbrev no-fact : Fact
 no-fact = record { name = []; at = 0; elements = [] }

@@ -3,9 +3,6 @@ use native.Mathlib.Omega.{arith}
 use Rattle.chain.proofs.Places.{binary-known, binary-unknown}
 use Rattle.chain.proofs.is_binary.Statement.{statement}
 use Rattle.chain.proofs.is_binary.Tie as tie
-use Rattle.chain.proofs.is_binary.Reads as reads
-use Rattle.chain.proofs.is_binary.Lts as lts
-use Rattle.chain.proofs.place_of.Reads as place-of-reads
 
 place-of-requires : tie.Need-place-of-requires
 place-of-requires c κs = search needs

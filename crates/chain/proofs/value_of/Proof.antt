@@ -2,9 +2,6 @@ use borrow.Author.Needs.{needs}
 use mathlib.Core.Path.{_∙_}
 use Rattle.chain.proofs.value_of.Statement.{statement}
 use Rattle.chain.proofs.value_of.Tie as tie
-use Rattle.chain.proofs.value_of.Reads as reads
-use Rattle.chain.proofs.value_of.Lts as lts
-use Rattle.parts.proofs.part.Reads as part-reads
 
 add-part : tie.Need-add-part
 add-part c = search needs
