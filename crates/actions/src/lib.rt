@@ -23,7 +23,8 @@ fn word_at(s: &[u64], i: usize) -> u64
     if i < s.len() { s[i] } else { 0 }
 }
 
-fn statement(w: u64) -> bool
+// Whether a word is a statement's own.
+pub fn statement(w: u64) -> bool
     ensures { λ r. ⌜ r ≡ is-statement (kind-of w) ⌝ }
 {
     match w % 256 {
