@@ -4,7 +4,7 @@ use mathlib.Core.Path.{_≡_, refl, sym, ap, _∙_}
 use mathlib.Core.Bool.{Bool, true, false, _&&_, _||_, cond}
 use mathlib.Core.List.{List, [], _∷_}
 use mathlib.Core.Logic.{⊎-elim}
-use native.Mathlib.Nat.{eq-or-lt-of-le}
+use native.Mathlib.Nat.{eq-or-lt-of-le, le-refl}
 use native.Mathlib.Omega.{arith}
 use borrow.Author.Tests.{eqb-true, eqb-false, leb-true, leb-false, ltb-true, ltb-false}
 use lib.Dec.{eqb, leb, ltb}
@@ -39,10 +39,10 @@ length-either true false s t e = refl
 length-either false b s t e = refl
 
 module _ (firsts vs : List ℕ) (u : ℕ) (words : List ℕ) (size : ℕ) where
-  abbrev first : ℕ → ℕ
+  abbrev pub first : ℕ → ℕ
   first j = getD firsts (16 + c-of (getD words j 0)) 0
 
-  abbrev closes : ℕ → Type 0
+  abbrev pub closes : ℕ → Type 0
   closes j = kind-of (getD words j 0) ≡ CLOSURE
 
   -- word i of a store is in the table of the closure at place j, or is not
@@ -115,6 +115,29 @@ module _ (firsts vs : List ℕ) (u : ℕ) (words : List ℕ) (size : ℕ) where
   touched zero k i = false
   touched (suc n) k i = in-table k i || touched n (suc k) i
 
+  -- the closure in whose table word i is
+  pub record Touching (n k i : ℕ) : Type 0 where
+    pub place : ℕ
+    pub after : k ≤ place
+    pub before : place < k + n
+    pub closure : closes place
+    pub low : first place ≤ i
+    pub high : i < first place + u
+
+  at-place : (n k i : ℕ) → Where k i true → Touching (suc n) k i
+  at-place n k i (inside c f a b) = record { place = k; after = le-refl k; before = omega arith; closure = c; low = a; high = b }
+
+  pub touching : (n k i : ℕ) → touched n k i ≡ true → Touching n k i
+  unfolding touched
+  touching zero k i e = let y : _≡_ {A = ℕ} 0 1 = cc in absurd (omega arith)
+  touching (suc n) k i e = go (in-table k i) (whereabouts k i) e (touching n (suc k) i)
+    where
+      go : (a : Bool) → Where k i a → a || touched n (suc k) i ≡ true → (touched n (suc k) i ≡ true → Touching n (suc k) i) → Touching (suc n) k i
+      go true v h ih = at-place n k i v
+      go false v h ih =
+          let r = ih h in
+          record { place = r .place; after = omega (arith, r .after); before = omega (arith, r .before); closure = r .closure; low = r .low; high = r .high }
+
   -- word i after the closures' tables are made zero
   pub record Cleared (n k : ℕ) (t : List ℕ) (i : ℕ) : Type 0 where
     pub zero-there : touched n k i ≡ true → getD (clear-words firsts u words n k t) i 0 ≡ 0
@@ -162,16 +185,19 @@ module _ (firsts vs : List ℕ) (u : ℕ) (words : List ℕ) (size : ℕ) where
   filled-length zero k s z = z
   filled-length (suc n) k s z = filled-length n (suc k) (fill-word firsts vs u words k s) (fill-length s z k 0)
 
+  -- a store that is zero in the closures' tables, and as t outside them, is t with those tables zero
+  pub cleared-to : (n k : ℕ) (t s : List ℕ) → length t ≡ size → length s ≡ size → ((i : ℕ) → touched n k i ≡ true → getD s i 0 ≡ 0)
+      → ((i : ℕ) → touched n k i ≡ false → getD t i 0 ≡ getD s i 0) → clear-words firsts u words n k t ≡ s
+  cleared-to n k t s y z h f =
+      ext-getD 0 _ s (cleared-length n k t y ∙ sym z) (λ i l. go i (touched n k i) refl (clears n k t y i))
+    where
+      go : (i : ℕ) (b : Bool) → touched n k i ≡ b → Cleared n k t i → getD (clear-words firsts u words n k t) i 0 ≡ getD s i 0
+      go i true e r = r .zero-there e ∙ sym (h i e)
+      go i false e r = r .kept-there e ∙ f i e
+
   pub restored : (n k : ℕ) (s : List ℕ) → length s ≡ size → ((i : ℕ) → touched n k i ≡ true → getD s i 0 ≡ 0)
       → clear-words firsts u words n k (fill-words firsts vs u words n k s) ≡ s
-  restored n k s z h =
-      ext-getD 0 _ s (cleared-length n k (fill-words firsts vs u words n k s) (filled-length n k s z) ∙ sym z)
-      (λ i l. go i (touched n k i) refl (clears n k (fill-words firsts vs u words n k s) (filled-length n k s z) i))
-    where
-      go : (i : ℕ) (b : Bool) → touched n k i ≡ b → Cleared n k (fill-words firsts vs u words n k s) i
-          → getD (clear-words firsts u words n k (fill-words firsts vs u words n k s)) i 0 ≡ getD s i 0
-      go i true e r = r .zero-there e ∙ sym (h i e)
-      go i false e r = r .kept-there e ∙ fills n k s z i e
+  restored n k s z h = cleared-to n k (fill-words firsts vs u words n k s) s (filled-length n k s z) z h (λ i e. fills n k s z i e)
 
   -- so an action that changes no table leaves the store as it was
   pub left-same : (s : List ℕ) (at : ℕ) → length s ≡ size → ((i : ℕ) → touched (at - start words at) (start words at) i ≡ true → getD s i 0 ≡ 0)
