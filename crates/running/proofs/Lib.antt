@@ -5,3 +5,4 @@ pub mod Stores
 pub mod Parted
 pub mod Worked
 pub mod Tested
+pub mod Printed
