@@ -6,3 +6,6 @@ pub mod Parted
 pub mod Worked
 pub mod Tested
 pub mod Printed
+pub mod Columns
+pub mod Assigning
+pub mod Programs

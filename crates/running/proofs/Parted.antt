@@ -11,7 +11,7 @@ use Rattle.definition.specs.Accept.{Accepted, elements, relation-words, largest
 use Rattle.definition.specs.Meaning.{Tables}
 use Rattle.definition.specs.Run.{State, point}
 use Rattle.definition.specs.Claim.{store-image}
-use Rattle.definition.proofs.RunLaws.{Shaped, point-shaped}
+use Rattle.definition.proofs.RunLaws.{Shaped, image-length, point-shaped}
 use Rattle.words.specs.Fields.{kind-of}
 use Rattle.eval.specs.Nodes.{c-of}
 use Rattle.closures.specs.Filling.{fill-words}
@@ -81,7 +81,7 @@ module _ (w : Accepted) (firsts : List ℕ) (scr : ℕ) (laid : Laid w firsts sc
   unfolding scratch-words
   closures-zero ts shaped vs store₀ size i e =
       let t = in-scratch vs size i e in
-      zero-behind w ts shaped store₀ i (t .low-end) (omega (arith, t .high-end))
+      zero-behind w ts (image-length shaped) store₀ i (t .low-end) (omega (arith, t .high-end))
 
   -- so an action that changes no table leaves the store as it was
   pub leaves-same : (A : Actions) → ((vs store : List ℕ) → A .leaves vs store k ≡ left-by low firsts u vs store k) → Leaves w A scope k

@@ -51,7 +51,7 @@ module _ (w : Accepted) (firsts : List ℕ) (scr : ℕ) (laid : Laid w firsts sc
   front-before = take-at (table-image ts) (replicate (scratch-words w) 0 ++ drop (words-needed w) store₀) base (image-length shaped)
 
   pub worked : Filled-all w β scope vs (part .named .naming) low ts firsts base (laid .closures) (table-image ts) tabled-at before after 0 es
-  worked = filled-all w β scope vs (part .named .naming) low ts firsts base (laid .closures) (table-image ts) tabled-at s m 0 es before (part .words) (room w ts shaped store₀ long) front-before
+  worked = filled-all w β scope vs (part .named .naming) low ts firsts base (laid .closures) (table-image ts) tabled-at s m 0 es before (part .words) (room w ts (image-length shaped) store₀ long) front-before
 
   pub front-after : take base after ≡ table-image ts
   front-after = shorter base (base + 0 * u) before after (omega arith) (worked .front) ∙ front-before
