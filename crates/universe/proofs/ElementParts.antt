@@ -2,7 +2,7 @@
 use Prim.Native.Nat.{ℕ, zero, suc, _+_, _/_, _%_, _<_, _≤_}
 use mathlib.Core.Path.{_≡_, refl, sym, ap, ap₂, subst, _∙_}
 use mathlib.Core.Bool.{Bool, true, false, _&&_, _||_, not, cond}
-use mathlib.Core.List.{List, [], _∷_, _++_, map, append-assoc}
+use mathlib.Core.List.{List, [], _∷_, _++_, map}
 use native.Mathlib.Omega.{arith}
 use borrow.Author.Tests.{leb-true}
 use lib.Dec.{T, eqb, leb}
@@ -23,6 +23,7 @@ use Rattle.parts.proofs.PackLaws.{pack-part, pack-tag}
 use Rattle.facts.specs.Words.{element-word}
 use Rattle.facts.specs.Reading.{answered, line-facts, facts-from, all-facts}
 use Rattle.universe.specs.Strings.{string-part, string-element}
+use Rattle.universe.proofs.Lists.{map-append, gather-append}
 use Rattle.universe.proofs.FirstParts.{part-in, quotes, Small}
 use Rattle.universe.proofs.LeftStrings.{Fits}
 use Rattle.universe.proofs.Entering.{string-text}
@@ -95,11 +96,6 @@ short-fact l f e =
     let (es, p, s) = bind-ok (elements ARITY (l .at + n) (drop n (l .bytes))) _ f e₂ in
     subst (λ (g : Fact). Short (g .elements)) (ok-injective s) (short-elements ARITY (l .at + n) (drop n (l .bytes)) es p)
 
-gather-append : {A B : Type 0} (f : A → List B) (xs ys : List A) → gather f (xs ++ ys) ≡ gather f xs ++ gather f ys
-unfolding gather
-gather-append f [] ys = refl
-gather-append f (x ∷ xs) ys = ap (λ zs. f x ++ zs) (gather-append f xs ys) ∙ sym (append-assoc (f x) (gather f xs) (gather f ys))
-
 short-line : (l : Line) → Short (elements-in (line-facts l))
 unfolding line-facts gather Short
 short-line l = go (skipped (l .bytes)) (fact l) refl
@@ -119,10 +115,6 @@ unfolding facts-from
 all-short facts = short-lines (lines 0 (cut (drop 0 facts)))
 
 -- their parts
-map-append : {A B : Type 0} (f : A → B) (xs ys : List A) → map f (xs ++ ys) ≡ map f xs ++ map f ys
-map-append f [] ys = refl
-map-append f (x ∷ xs) ys = ap (λ zs. f x ∷ zs) (map-append f xs ys)
-
 pub words-in : (fs : List Fact) → gather (λ f. map element-word (f .elements)) fs ≡ map element-word (elements-in fs)
 unfolding gather
 words-in [] = refl

@@ -28,6 +28,7 @@ use Rattle.kinds.specs.Resolved.{Parsed}
 use Rattle.universe.specs.Strings.{LEFT-STRING, string-part, string-element, left-tokens, with-strings, Enters, WithStrings, StringsMeet}
 use Rattle.universe.specs.declared.Strings.{Strings}
 use Rattle.universe.specs.declared.Strings.the-variants.{Count, Full}
+use Rattle.universe.proofs.Lists.{map-append}
 use Rattle.universe.proofs.LeftStrings.{left-strings-shown}
 
 -- more elements after others
@@ -40,10 +41,6 @@ use-append limits (e ∷ xs) ys us = go (ltb (limits .elements) (length (insert 
         → _>>_ (refuse-if b 7 (e .at)) (use-elements limits (xs ++ ys) (insert (e .value) us)) ≡ _>>=_ (_>>_ (refuse-if b 7 (e .at)) (use-elements limits xs (insert (e .value) us))) (use-elements limits ys)
     go true h = refl
     go false h = h
-
-map-append : {A B : Type 0} (f : A → B) (xs ys : List A) → map f (xs ++ ys) ≡ map f xs ++ map f ys
-map-append f [] ys = refl
-map-append f (x ∷ xs) ys = ap (λ zs. f x ∷ zs) (map-append f xs ys)
 
 -- the tokens of one word and of more
 left-cons : (tokens : List ℕ) (w : ℕ) (ws : List ℕ) → left-tokens tokens (w ∷ ws) ≡ left-tokens tokens (w ∷ []) ++ left-tokens tokens ws

@@ -34,22 +34,10 @@ use Rattle.kinds.specs.Resolved.{Parsed}
 use Rattle.lines.specs.Lines.{texts}
 use Rattle.lines.proofs.LineLaws.{Shows}
 use Rattle.universe.specs.Strings.{string-part, string-element, left-tokens, with-strings, WithStrings}
+use Rattle.universe.proofs.Lists.{some-append, or-none}
 use Rattle.universe.proofs.LeftStrings.{left-strings-shown, left-strings-within}
 use Rattle.universe.proofs.FirstParts.{part-in, quotes, Small, enter-all-ascending, enter-all-small, part-enter-all, part-at, quotes-enter-all, quotes-at}
 use Rattle.universe.proofs.ElementParts.{Short, elements-in, all-short, words-in, words-small, first-in-facts, quoted-in-facts, strings-small, quoted-by-none, first-in-query}
-
-or-none : (a : Bool) → a || false ≡ a
-or-none true = refl
-or-none false = refl
-
-some-append : {A : Type 0} (p : A → Bool) (xs ys : List A) → some-of p (xs ++ ys) ≡ some-of p xs || some-of p ys
-unfolding some-of
-some-append p [] ys = refl
-some-append p (x ∷ xs) ys = go (p x) (some-append p xs ys)
-  where
-    go : (b : Bool) → some-of p (xs ++ ys) ≡ some-of p xs || some-of p ys → b || some-of p (xs ++ ys) ≡ (b || some-of p xs) || some-of p ys
-    go true e = refl
-    go false e = e
 
 some-gather : (p : Element → Bool) (fs : List Fact) → some-of p (elements-in fs) ≡ some-of (λ f. some-of p (f .elements)) fs
 unfolding some-of gather

@@ -17,6 +17,7 @@ use Rattle.parts.specs.Packed.{tag-of, part-of, text-of}
 use Rattle.parts.specs.Entries.{quoted-too, enter, enter-all, texts-of}
 use Rattle.parts.proofs.PackLaws.{quoted-part}
 use Rattle.parts.proofs.HeldLaws.{texts-enter}
+use Rattle.universe.proofs.Lists.{or-none}
 
 -- a text before the first of an ascending list is not in it
 not-same : (t u : Text) → T (earlier t u) → same t u ≡ false
@@ -60,10 +61,6 @@ turn true true c = refl
 turn true false c = refl
 turn false true c = refl
 turn false false c = refl
-
-or-none : (a : Bool) → a || false ≡ a
-or-none true = refl
-or-none false = refl
 
 module _ (facts query : Text) where
   -- the first of some parts that has the text t; within if there is none
