@@ -1,8 +1,8 @@
 -- An assignment leaves the store of the definition's tables after it.
-use Prim.Native.Nat.{ℕ, _+_, _-_, _*_, _<_, _≤_}
+use Prim.Native.Nat.{ℕ, _+_, _-_, _<_, _≤_}
 use mathlib.Core.Path.{_≡_, refl, sym, ap, ap₂, subst, _∙_}
 use mathlib.Core.Bool.{Bool, true, false, _&&_, cond}
-use mathlib.Core.List.{List, [], _∷_, _++_}
+use mathlib.Core.List.{List, _++_}
 use native.Mathlib.Nat.{le-refl, mul-le-mul-right}
 use native.Mathlib.Omega.{arith}
 use borrow.Author.Tests.{le-leb, ltb-true, ltb-false}
@@ -14,7 +14,7 @@ use Rattle.definition.specs.Token.{Token}
 use Rattle.definition.specs.Syntax.{Term, Expression}
 use Rattle.definition.specs.Names.{attributes}
 use Rattle.definition.specs.Tables.{table, table-words}
-use Rattle.definition.specs.Accept.{Accepted, elements, relation-words, largest-words, scratch-words, words-needed}
+use Rattle.definition.specs.Accept.{Accepted, elements, relation-words, scratch-words, words-needed}
 use Rattle.definition.specs.Meaning.{Tables, Environment, mean}
 use Rattle.definition.specs.Assignment.{assign-tables}
 use Rattle.definition.specs.Claim.{table-image, store-image}
@@ -25,14 +25,14 @@ use Rattle.words.specs.Raw.{size}
 use Rattle.eval.specs.Nodes.{node-at, n-of}
 use Rattle.eval.specs.Meaning.{world, meaning}
 use Rattle.closures.specs.Filling.{fill-words}
-use Rattle.meaning.specs.Lowered.{Placed, closure-count, Sequence, none, leaves, expression, Lowered}
+use Rattle.meaning.specs.Lowered.{none, leaves, expression, Lowered}
 use Rattle.meaning.specs.Ready.{Tabled, Held, Held-all}
 use Rattle.meaning.proofs.Filled.{held-kept}
 use Rattle.meaning.proofs.Means.{means}
 use Rattle.columns.proofs.Assigned.{InSlots}
 use Rattle.assignment.specs.New.{new-at}
 use Rattle.assignment.proofs.Laws.{assign-store}
-use Rattle.actions.specs.Doing.{columns-of, filled, cleared, assign-by-word, assign-by}
+use Rattle.actions.specs.Doing.{columns-of, cleared, assign-by-word, assign-by}
 use Rattle.actions.proofs.Restored.{touched, fills, cleared-to}
 use Rattle.code.specs.Layout.{Laid}
 use Rattle.code.specs.Statements.{Whole, AssignCode}
@@ -40,7 +40,7 @@ use Rattle.machine.specs.Actions.{scope-environment}
 use Rattle.running.proofs.Numbered.{count-few}
 use Rattle.running.proofs.Scopes.{open-loops}
 use Rattle.running.proofs.Stores.{words-inside, words-largest, behind, zero-behind, same-length}
-use Rattle.running.proofs.Parted.{Part, InScratch, filled-as, cleared-as, in-scratch}
+use Rattle.running.proofs.Parted.{Part, filled-as, cleared-as, in-scratch}
 use Rattle.running.proofs.Worked.{tabled-at, front-after, worked}
 use Rattle.running.proofs.Tested.{only}
 use Rattle.running.proofs.Columns.{slot, slot-low, apart, agree-start, fits-slots}

@@ -9,3 +9,4 @@ pub mod Printed
 pub mod Columns
 pub mod Assigning
 pub mod Programs
+pub mod Runs

@@ -1,15 +1,15 @@
 -- A statement's words, from its first one up to its own: where its closures are worked out, and that the store is left as it was.
 use Prim.Native.Nat.{ℕ, zero, suc, _+_, _-_, _*_, _<_, _≤_}
-use mathlib.Core.Path.{_≡_, refl, sym, ap, ap₂, subst, _∙_}
-use mathlib.Core.Bool.{Bool, true, false, cond}
+use mathlib.Core.Path.{_≡_, refl, ap, ap₂, subst, _∙_}
+use mathlib.Core.Bool.{true, false}
 use mathlib.Core.List.{List}
 use native.Mathlib.Nat.{add-zero, add-suc, mul-le-mul-right}
 use native.Mathlib.Omega.{arith}
 use lib.ListN.{length, getD}
 use Rattle.definition.specs.Text.{Text}
-use Rattle.definition.specs.Accept.{Accepted, elements, relation-words, largest-words, scratch-words, words-needed}
+use Rattle.definition.specs.Accept.{Accepted, elements, relation-words, scratch-words}
 use Rattle.definition.specs.Meaning.{Tables}
-use Rattle.definition.specs.Run.{State, point}
+use Rattle.definition.specs.Run.{point}
 use Rattle.definition.specs.Claim.{store-image}
 use Rattle.definition.proofs.RunLaws.{Shaped, image-length, point-shaped}
 use Rattle.words.specs.Fields.{kind-of}
@@ -18,12 +18,12 @@ use Rattle.closures.specs.Filling.{fill-words}
 use Rattle.meaning.specs.Lowered.{Placed, Sequence}
 use Rattle.actions.specs.Parts.{is-statement, start, clear-words}
 use Rattle.actions.specs.Doing.{filled, cleared, left-by}
-use Rattle.actions.proofs.Restored.{touched, Touching, touching, restored}
+use Rattle.actions.proofs.Restored.{touched, touching, restored}
 use Rattle.code.specs.Layout.{Laid}
 use Rattle.code.specs.Statements.{Named, Whole}
 use Rattle.machine.specs.Actions.{Actions, Leaves}
-use Rattle.running.proofs.Numbered.{AllFew, few-sequence}
-use Rattle.running.proofs.Stores.{zero-behind, same-length}
+use Rattle.running.proofs.Numbered.{few-sequence}
+use Rattle.running.proofs.Stores.{zero-behind}
 
 -- m words from s on with the expressions es, and the own word of their statement at k
 pub record Part (w : Accepted) (β : Text → ℕ) (scope : List Text) (low : List ℕ) (s m k : ℕ) (es : List Placed) : Type 0 where

@@ -1,17 +1,15 @@
 -- A PRINT's bytes are what the definition says of its items.
-use Prim.Native.Nat.{ℕ, _+_}
-use mathlib.Core.Path.{_≡_, refl, sym, ap, subst, _∙_}
+use Prim.Native.Nat.{ℕ}
+use mathlib.Core.Path.{refl, ap, subst, _∙_}
 use mathlib.Core.List.{List}
-use lib.ListN.{getD}
 use Rattle.definition.specs.Text.{Text}
 use Rattle.definition.specs.Syntax.{Item}
 use Rattle.definition.specs.Accept.{Accepted, elements}
-use Rattle.definition.specs.Run.{State, point}
+use Rattle.definition.specs.Run.{point}
 use Rattle.definition.proofs.RunLaws.{point-shaped}
-use Rattle.words.specs.Fields.{p-of}
 use Rattle.words.specs.Raw.{size-items}
 use Rattle.eval.specs.Meaning.{world}
-use Rattle.meaning.specs.Lowered.{Placed, Sequence}
+use Rattle.meaning.specs.Lowered.{Sequence}
 use Rattle.lines.specs.Lines.{Texts}
 use Rattle.lines.proofs.LineLaws.{Shows}
 use Rattle.prints.specs.Items.{printed}

@@ -1,8 +1,8 @@
 -- The lowered words of a whole program do its statements, one after another.
-use Prim.Native.Nat.{ℕ, _+_, _-_, _<_, _≤_}
+use Prim.Native.Nat.{ℕ, _+_, _-_, _<_}
 use mathlib.Core.Path.{_≡_, refl, sym, ap, subst, _∙_}
 use mathlib.Core.Bool.{Bool, true, false}
-use mathlib.Core.List.{List, [], _∷_}
+use mathlib.Core.List.{List, []}
 use native.Mathlib.Nat.{le-refl}
 use native.Mathlib.Omega.{arith}
 use borrow.Author.Tests.{ltb-true, ltb-false}
@@ -12,7 +12,7 @@ use Rattle.definition.specs.Text.{Text}
 use Rattle.definition.specs.Token.{Token}
 use Rattle.definition.specs.Syntax.{Term, Expression, Program}
 use Rattle.definition.specs.Accept.{Accepted, elements}
-use Rattle.definition.specs.Run.{State, point}
+use Rattle.definition.specs.Run.{point}
 use Rattle.definition.proofs.RunLaws.{point-shaped}
 use Rattle.words.specs.Fields as Fields
 use Rattle.words.specs.Fields.{kind-of}
@@ -23,7 +23,7 @@ use Rattle.actions.specs.Doing.{print-by}
 use Rattle.code.specs.Layout.{Laid}
 use Rattle.code.specs.Statements.{Whole, AssignCode}
 use Rattle.code.specs.Program.{Code, code-end, code-assign, code-print, code-test, code-while, code-for, code-block}
-use Rattle.machine.specs.Instructions.{Instr, END, PASS, instr}
+use Rattle.machine.specs.Instructions.{Instr, END, instr}
 use Rattle.machine.specs.Actions.{Actions, Assigns}
 use Rattle.machine.specs.Placed.{Placed, placed-end, placed-assign, placed-print, placed-test, placed-while, placed-for, placed-block, Holds-program}
 use Rattle.machine.specs.Bound.{actions}

@@ -1,27 +1,25 @@
 -- The tests of IF and WHILE, and the sets of FORs, are what the definition says.
 use Prim.Native.Nat.{ℕ, zero, suc, _+_, _-_, _%_, _<_}
 use mathlib.Core.Path.{_≡_, refl, sym, ap, ap₂, subst, _∙_}
-use mathlib.Core.Bool.{Bool, true, false, not, cond}
+use mathlib.Core.Bool.{Bool, cond}
 use mathlib.Core.List.{List, [], _∷_, map}
 use native.Mathlib.Nat.{zero-add, add-zero}
 use native.Mathlib.Omega.{arith}
-use lib.Dec.{T}
-use lib.ListN.{length, getD, set, replicate}
-use Rattle.definition.specs.Text.{Text, same, member, some-of, keep, from, below}
+use lib.ListN.{getD, set, replicate}
+use Rattle.definition.specs.Text.{Text, member, some-of, keep, from}
 use Rattle.definition.specs.Syntax.{Expression}
-use Rattle.definition.specs.Names.{free}
-use Rattle.definition.specs.Tables.{Tuple, bit, word}
-use Rattle.definition.specs.Accept.{Accepted, elements, words-needed}
-use Rattle.definition.specs.Meaning.{Environment, bind, mean, answers}
-use Rattle.definition.specs.Run.{State, point}
+use Rattle.definition.specs.Tables.{bit, word}
+use Rattle.definition.specs.Accept.{Accepted, elements}
+use Rattle.definition.specs.Meaning.{bind, mean}
+use Rattle.definition.specs.Run.{point}
 use Rattle.definition.proofs.RunLaws.{point-shaped}
 use Rattle.definition.proofs.TableLaws.{bit-word}
 use Rattle.definition.proofs.TupleLaws.{for-set}
 use Rattle.words.specs.Raw.{size}
-use Rattle.eval.specs.Nodes.{node-at, operand, slot, c-of}
+use Rattle.eval.specs.Nodes.{node-at, c-of}
 use Rattle.eval.specs.Meaning.{world, meaning}
-use Rattle.meaning.specs.Lowered.{Placed, Sequence, none, leaves, expression}
-use Rattle.meaning.specs.Ready.{Fits, Loops, Held-all}
+use Rattle.meaning.specs.Lowered.{Placed, none, leaves, expression}
+use Rattle.meaning.specs.Ready.{Fits, Held-all}
 use Rattle.meaning.proofs.Fit.{fits-bind, rest-in}
 use Rattle.actions.specs.Doing.{filled, test-by, range-by}
 use Rattle.code.specs.Layout.{Laid}

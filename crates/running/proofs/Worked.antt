@@ -1,10 +1,9 @@
 -- A statement's closures, once they are worked out at a point of the run; and what its expressions then mean.
-use Prim.Native.Nat.{ℕ, _+_, _-_, _*_, _<_, _≤_}
-use mathlib.Core.Path.{_≡_, refl, sym, ap, ap₂, subst, _∙_}
-use mathlib.Core.Bool.{Bool}
-use mathlib.Core.List.{List, [], _∷_, _++_}
+use Prim.Native.Nat.{ℕ, _+_, _-_, _*_, _≤_}
+use mathlib.Core.Path.{_≡_, ap₂, _∙_}
+use mathlib.Core.List.{List, _++_}
 use native.Mathlib.Omega.{arith}
-use lib.ListN.{length, getD, take, drop, replicate}
+use lib.ListN.{length, take, drop, replicate}
 use lib.Seq.{take-at}
 use Rattle.definition.specs.Text.{Text}
 use Rattle.definition.specs.Syntax.{Expression}
@@ -17,8 +16,8 @@ use Rattle.words.specs.Raw.{size}
 use Rattle.eval.specs.Nodes.{node-at}
 use Rattle.eval.specs.Meaning.{world, meaning}
 use Rattle.closures.specs.Filling.{fill-words}
-use Rattle.meaning.specs.Lowered.{Placed, Naming, Sequence, none, expression, Lowered}
-use Rattle.meaning.specs.Ready.{Fits, Tabled, Held, Held-all}
+use Rattle.meaning.specs.Lowered.{Placed, Lowered}
+use Rattle.meaning.specs.Ready.{Fits, Tabled, Held}
 use Rattle.meaning.proofs.Stored.{stored}
 use Rattle.meaning.proofs.Filled.{shorter}
 use Rattle.meaning.proofs.Statements.{Filled-all, filled-all}
