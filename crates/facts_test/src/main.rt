@@ -1,4 +1,5 @@
-// Worked facts, with two relations and four elements as limits: what is given, or the row and the place of the refusal.
+// Worked facts: what is given, or the row and the place of the refusal. Most have two relations and four elements as limits; then
+// document 01's own limits, below, at and above each.
 use definition::Refusal;
 use facts::FactsRead;
 use facts::read_facts;
@@ -54,16 +55,27 @@ fn print_two(word: &[u8], a: u64, b: u64) {
     io::write_all(STDOUT_FILENO, b"\n");
 }
 
-fn show(facts: &[u8]) {
-    let mut relations = [0usize; 2];
-    let mut universe = [0usize; 4];
-    match read_facts(facts, facts, &mut relations, &mut universe) {
+fn show_read(facts: &[u8], relations: &mut [usize], universe: &mut [usize]) {
+    match read_facts(facts, facts, relations, universe) {
         FactsRead::Given(c) => print_two(b"given ", c.relations as u64, c.elements as u64),
         FactsRead::Refused(q) => {
             let r = row_of(q);
             print_two(b"refused ", r.number, r.place as u64)
         }
     }
+}
+
+fn show(facts: &[u8]) {
+    let mut relations = [0usize; 2];
+    let mut universe = [0usize; 4];
+    show_read(facts, &mut relations, &mut universe)
+}
+
+// "At most 16 relations", "at most 64" elements
+fn show_full(facts: &[u8]) {
+    let mut relations = [0usize; 16];
+    let mut universe = [0usize; 64];
+    show_read(facts, &mut relations, &mut universe)
 }
 
 fn lists() {
@@ -79,6 +91,9 @@ fn names() {
     show(b"TRUE x");
     show(b"# c\n \t\nA");
     show(b"A x\n.\nTRUE x");
+    show(b"A234567890123456789012345678901");
+    show(b"A2345678901234567890123456789012");
+    show(b"A23456789012345678901234567890123");
 }
 
 fn elements() {
@@ -86,12 +101,66 @@ fn elements() {
     show(b"A b\"c");
     show(b"A \"\" \"\"");
     show(b"A \"x y\"");
+    show(b"A 1234567890123456789012345678901");
     show(b"A 12345678901234567890123456789012");
     show(b"A 123456789012345678901234567890123");
+}
+
+// "fact byte not 9, 10 or 32..126", and none after the dot is read
+fn bytes() {
+    show(b"A\tx\n");
+    show(b"A x\x01");
+    show(b"A \x1f");
+    show(b"A ~");
+    show(b"A \x7f");
+    show(b"A x\n.\x01");
+    show(b"A x y z w\n\x01");
+}
+
+// 15, 16 and 17 relations
+fn many_relations() {
+    show_full(b"A\nB\nC\nD\nE\nF\nG\nH\nI\nJ\nK\nL\nM\nN\nO");
+    show_full(b"A\nB\nC\nD\nE\nF\nG\nH\nI\nJ\nK\nL\nM\nN\nO\nP");
+    show_full(b"A\nB\nC\nD\nE\nF\nG\nH\nI\nJ\nK\nL\nM\nN\nO\nP\nQ");
+}
+
+// 63, 64 and 65 elements of one byte, one on each line
+fn many_elements() {
+    let mut text = [10u8; 260];
+    let mut i: usize = 0;
+    while i < 65 {
+        text[4 * i] = b'A';
+        text[4 * i + 1] = b' ';
+        text[4 * i + 2] = 48 + i as u8;
+        i += 1;
+    }
+    show_full(&text[..252]);
+    show_full(&text[..256]);
+    show_full(&text);
+}
+
+// 32,767, 32,768 and 32,769 bytes, with a fact after a long comment; then a byte there that is not allowed
+fn many_bytes() {
+    let mut text = [b' '; 32769];
+    text[0] = b'#';
+    text[32764] = b'\n';
+    text[32765] = b'A';
+    text[32766] = b' ';
+    text[32767] = b'x';
+    show_full(&text[..32767]);
+    show_full(&text[..32768]);
+    show_full(&text);
+    text[32767] = 1;
+    show_full(&text[..32768]);
+    show_full(&text);
 }
 
 fn main() {
     lists();
     names();
     elements();
+    bytes();
+    many_relations();
+    many_elements();
+    many_bytes();
 }
