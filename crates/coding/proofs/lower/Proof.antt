@@ -50,8 +50,7 @@ lower-statement-requires c κs =
     let l = c .before .before .before .before .before .before .before .before .before .before .before .before .loop in
     let i = l .inv in
     let p = c .before .before .before .before .before .before .before .before .before .before .before .before .before .before .before .before .before .before .before .before .before .before .before .before .pre .0 in
-    let b : l .s ≤ l .k = omega (arith, i .5 .begins, start-le (c .before .before .before .before .before .before .before .before .before .before .before .before .before .before .before .before .before .before .before .before .before .before .before .before .args .words .now) (l .k)) in
-    ((b, (c .before .before .before .before .before .before .before .before .before .before .before .loop-test .taken, (omega arith, (omega arith, omega (arith, i .5 .same-length))))), (c .before .before .before .before .before .before .note-depth .ensures .1, i .4))
+    ((omega (arith, i .5 .begins, start-le (c .before .before .before .before .before .before .before .before .before .before .before .before .before .before .before .before .before .before .before .before .before .before .before .before .args .words .now) (l .k)), (c .before .before .before .before .before .before .before .before .before .before .before .loop-test .taken, (omega arith, (omega arith, omega (arith, i .5 .same-length))))), (c .before .before .before .before .before .before .note-depth .ensures .1, i .4))
 
 add-k-2 : tie.Need-add-k-2 Inv-loop μ-loop
 add-k-2 c = omega (arith, c .before .before .before .before .before .before .before .before .before .before .before .before .before .before .before .before .before .before .loop-test .taken, c .before .before .before .before .before .before .before .before .before .before .before .before .before .before .before .before .before .before .before .before .before .before .before .before .before .before .before .before .before .before .before .pre .0)
