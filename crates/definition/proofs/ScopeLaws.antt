@@ -3,9 +3,10 @@ use mathlib.Core.Path.{_≡_, refl, sym, ap, subst, _∙_}
 use mathlib.Core.Logic.{_⊎_, inl, inr}
 use mathlib.Core.Bool.{Bool, true, false, not, cond}
 use mathlib.Core.List.{List, [], _∷_, _++_}
-use Prim.Native.Nat.{ℕ, suc}
+use Prim.Native.Nat.{ℕ, suc, _≤_}
 use lib.Dec.{T, eqb, ltb}
 use lib.ListN.{length}
+use borrow.Author.Tests.{ltb-false}
 use Rattle.definition.specs.Text.{Text, same, member, some-of, gather}
 use Rattle.definition.specs.Limits.{Limits, ARITY}
 use Rattle.definition.specs.Token.{Token}
@@ -123,16 +124,16 @@ Stands leave v w = Unit {0}
 
 abbrev Seen : Role → Known → Rule → Type 0
 Seen p v (becomes w) = (is-open w ≡ open-then p v) × Stands p v w
-Seen p v (first n) = (open-then p v ≡ false) × ((w : Known) → Stands p v w)
+Seen p v (first n) = (open-then p v ≡ false) × ((w : Known) → Stands p v w) × (n ≤ ARITY)
 Seen p v (row r) = Unit {0}
 
 rule-seen : (p : Role) (v : Known) → Seen p v (rule p v)
 unfolding rule
-rule-seen (before-terms n) nothing = go (ltb ARITY n)
+rule-seen (before-terms n) nothing = go (ltb ARITY n) refl
   where
-    go : (b : Bool) → Seen (before-terms n) nothing (cond b (row 5) (first n))
-    go true = tt
-    go false = (refl, λ w. tt)
+    go : (b : Bool) → ltb ARITY n ≡ b → Seen (before-terms n) nothing (cond b (row 5) (first n))
+    go true e = tt
+    go false e = (refl, λ w. tt, ltb-false ARITY n e)
 rule-seen (before-terms n) attribute = tt
 rule-seen (before-terms n) variable = tt
 rule-seen (before-terms n) open-variable = tt
@@ -172,6 +173,10 @@ rule-seen leave variable = tt
 rule-seen leave open-variable = (refl, tt)
 rule-seen leave (relation i m) = tt
 
+-- a relation that the query adds has at most 3 terms
+pub first-small : (p : Role) (v : Known) (n : ℕ) → rule p v ≡ first n → n ≤ ARITY
+first-small p v n e = subst (Seen p v) e (rule-seen p v) .2
+
 -- the same of the name used, and of any other name nothing changes
 used-here : {l : Kinds} {p : Role} {t : Token} {m : Kinds} → Used l p t m
     → (is-open (m .known (t .text)) ≡ open-then p (l .known (t .text))) × Stands p (l .known (t .text)) (m .known (t .text))
@@ -179,7 +184,7 @@ used-here {l} {p} {t} (kept v e) =
     subst (λ w. (is-open w ≡ open-then p (l .known (t .text))) × Stands p (l .known (t .text)) w) (sym (learn-here (t .text) v (l .known)))
     (subst (Seen p (l .known (t .text))) e (rule-seen p (l .known (t .text))))
 used-here {l} {p} {t} (added n e) =
-    let (a, b) = subst (Seen p (l .known (t .text))) e (rule-seen p (l .known (t .text))) in
+    let (a, b, c) = subst (Seen p (l .known (t .text))) e (rule-seen p (l .known (t .text))) in
     (ap is-open (learn-here (t .text) (relation (length (l .relations)) n) (l .known)) ∙ sym a, b _)
 
 used-other : {l : Kinds} {p : Role} {t : Token} {m : Kinds} → Used l p t m → (y : Text) → T (not (same (t .text) y)) → m .known y ≡ l .known y
