@@ -206,10 +206,11 @@ pub fn reserved_word(w: &[u8]) -> Word
     ensures index { λ r. ⌜ index-of r < 26 ⌝ }
 {
     let words = WORDS;
+    let lengths = LENGTHS;
     let mut k: usize = 0;
     while k < 26 {
         let a = k * 7;
-        let n = LENGTHS[k];
+        let n = lengths[k];
         let e = a + n;
         if same(&words[a..e], w) {
             return Word::Reserved(k);

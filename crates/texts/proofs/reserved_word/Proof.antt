@@ -12,10 +12,10 @@ use Rattle.definition.specs.Text.{Text, same, reserved}
 use Rattle.texts.proofs.WordTable.{letters, lengths, row-short, row-word, Unlisted, search-start, search-found, search-next, search-end}
 
 abbrev Inv-loop : tie.InvT-loop
-Inv-loop w words k₀ k = (k ≤ 26) × Unlisted w k
+Inv-loop w words lengths k₀ k = (k ≤ 26) × Unlisted w k
 
 abbrev μ-loop : tie.MeasureT-loop
-μ-loop w words k₀ k = 26 - k
+μ-loop w words lengths k₀ k = 26 - k
 
 loop-holds : tie.Need-loop-holds Inv-loop μ-loop
 loop-holds c = (omega arith, search-start _)
