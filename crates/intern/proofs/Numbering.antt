@@ -1,20 +1,20 @@
 -- The numbers of names tell their texts apart.
 use Prim.Native.Nat.{ℕ, zero, suc, _+_, _-_, _/_, _%_, _≤_, _<_}
-use mathlib.Core.Path.{_≡_, refl, sym, ap, ap₂, _∙_}
+use mathlib.Core.Path.{_≡_, refl, sym, ap, _∙_}
 use mathlib.Core.Bool.{Bool, true, false, cond}
-use mathlib.Core.List.{List, [], _∷_}
+use mathlib.Core.List.{List}
 use native.Mathlib.Omega.{arith}
 use native.Mathlib.Nat.{add-zero, zero-add}
-use borrow.Author.Tests.{eq-eqb, ne-eqb, eqb-true, eqb-false, lt-ltb, le-ltb}
+use borrow.Author.Tests.{eq-eqb, ne-eqb, eqb-true, eqb-false, lt-ltb, le-ltb, ltb-false}
 use lib.Seq.{getD-set-same, getD-set-other}
-use lib.Dec.{eqb}
+use lib.Dec.{eqb, ltb}
 use lib.ListN.{length, getD, set, take, drop}
 use Rattle.definition.specs.Text.{Text, same}
 use Rattle.definition.proofs.BoolLaws.{is-true}
 use Rattle.definition.proofs.MeaningLaws.{same-refl, same-eq}
 use Rattle.parts.specs.Packed.{text-of}
 use Rattle.intern.specs.Entries.{start-of, text-at}
-use Rattle.intern.specs.Numbers.{name-of, seek, number-of}
+use Rattle.intern.specs.Numbers.{name-of, seek, number-of, may-be-first, Numbered}
 
 -- the text of a word
 pub text-part : (xs : Text) (w a : ℕ) → a ≡ start-of w → take (w / 64 % 64) (drop a xs) ≡ text-at xs w
@@ -79,6 +79,15 @@ module _ (names : ℕ → Text) (x : Text) where
       go true h = omega arith
       go false h = omega arith
 
+  at-least : (f j : ℕ) → j ≤ seek names x f j
+  unfolding seek
+  at-least zero j = omega arith
+  at-least (suc f) j = go (same x (names j)) (at-least f (j + 1))
+    where
+      go : (b : Bool) → j + 1 ≤ seek names x f (j + 1) → j ≤ cond b j (seek names x f (j + 1))
+      go true h = omega arith
+      go false h = omega arith
+
 -- the search of a name's number, from the start
 pub number-start : (names : ℕ → Text) (i : ℕ) (x : Text) → x ≡ names i → number-of names i ≡ seek names x (i - 0) 0
 unfolding number-of
@@ -110,6 +119,53 @@ faithful names s t = go (same (names s) (names t)) refl
 pub number-le : (names : ℕ → Text) (i : ℕ) → number-of names i ≤ i
 unfolding number-of
 number-le names i = omega (arith, within names (names i) i 0)
+
+-- whether a place may be the first of its text
+module _ (k : ℕ) (ids : List ℕ) (j : ℕ) where
+  pub first-relation : j < k → true ≡ may-be-first k ids j
+  unfolding may-be-first
+  first-relation h = rw (lt-ltb j k h) refl
+
+  pub first-token : k ≤ j → j - k < length ids → eqb (getD ids (j - k) 0) j ≡ may-be-first k ids j
+  unfolding may-be-first
+  first-token h l = rw (le-ltb j k h, lt-ltb (j - k) (length ids) l) refl
+
+  pub first-past : k ≤ j → length ids ≤ j - k → true ≡ may-be-first k ids j
+  unfolding may-be-first
+  first-past h l = rw (le-ltb j k h, le-ltb (j - k) (length ids) l) refl
+
+  never : true ≡ false → ⊥
+  never e = let z : _≡_ {A = ℕ} 0 1 = cc in omega arith
+
+  not-first : may-be-first k ids j ≡ false → (k ≤ j) × (getD ids (j - k) 0 ≡ j → ⊥)
+  unfolding may-be-first
+  not-first h = go (ltb j k) refl (ltb (j - k) (length ids)) h
+    where
+      go : (b : Bool) → ltb j k ≡ b → (d : Bool) → cond b true (cond d (eqb (getD ids (j - k) 0) j) true) ≡ false → (k ≤ j) × (getD ids (j - k) 0 ≡ j → ⊥)
+      go true e d q = absurd (never q)
+      go false e true q = (ltb-false j k e, eqb-false (getD ids (j - k) 0) j q)
+      go false e false q = absurd (never q)
+
+-- a place with a lower number has another text than one whose text is not found below it
+pub seek-skip : (names : ℕ → Text) (x : Text) (k : ℕ) (ids : List ℕ) (i j : ℕ) (b : Bool) → x ≡ names i → j < i → Numbered names k ids (i - k)
+    → b ≡ may-be-first k ids j → b ≡ false → number-of names i ≡ seek names x (i - j) j → number-of names i ≡ seek names x (i - (j + 1)) (j + 1)
+seek-skip names x k ids i j b ex l numbers eb f h =
+    let n = not-first k ids j (sym eb ∙ f) in
+    let d : j - k < i - k = omega arith in
+    let s : k + (j - k) ≡ j = omega arith in
+    let e : getD ids (j - k) 0 ≡ number-of names j = numbers (j - k) d ∙ ap (number-of names) s in
+    let lower : number-of names j < j = below n e (number-le names j) in
+    go (same x (names j)) refl lower
+  where
+    below : (k ≤ j) × (getD ids (j - k) 0 ≡ j → ⊥) → getD ids (j - k) 0 ≡ number-of names j → number-of names j ≤ j → number-of names j < j
+    below n e m = let z : number-of names j ≡ j → ⊥ = λ q. n .1 (e ∙ q) in omega arith
+
+    go : (b : Bool) → same x (names j) ≡ b → number-of names j < j → number-of names i ≡ seek names x (i - (j + 1)) (j + 1)
+    go true q m =
+        let p : same (names i) (names j) ≡ true = rw (← ex) q in
+        let y : number-of names i ≡ number-of names j = eqb-true _ _ (sym (faithful names i j) ∙ p) in
+        absurd (omega (arith, h, at-least names x (i - j) j))
+    go false q m = h ∙ seek-miss names x i j (names j) false l refl (sym q) refl
 
 -- an array that is filled from the front has one element more
 pub filled : (f : ℕ → ℕ) (xs : List ℕ) (i v : ℕ) → i < length xs → v ≡ f i → ((k : ℕ) → k < i → getD xs k 0 ≡ f k) → (k : ℕ) → k < i + 1 → getD (set xs i v) k 0 ≡ f k

@@ -2,9 +2,9 @@
 -- query. Two names are the same text if and only if they have the same number.
 use Prim.Native.Nat.{ℕ, zero, suc, _+_, _-_, _<_}
 use mathlib.Core.Path.{_≡_}
-use mathlib.Core.Bool.{cond}
+use mathlib.Core.Bool.{Bool, true, cond}
 use mathlib.Core.List.{List}
-use lib.Dec.{ltb}
+use lib.Dec.{eqb, ltb}
 use lib.ListN.{length, getD}
 use Rattle.definition.specs.Text.{Text, same}
 use Rattle.parts.specs.Packed.{text-of}
@@ -26,3 +26,7 @@ number-of names i = seek names (names i) i 0
 -- the numbers of the first n tokens' names stand in ids, where k relations come first
 abbrev pub Numbered : (ℕ → Text) → ℕ → List ℕ → ℕ → Type 0
 Numbered names k ids n = (t : ℕ) → t < n → getD ids t 0 ≡ number-of names (k + t)
+
+-- the place j can be the first of its text, where k relations come first: no number says otherwise
+unfoldable pub may-be-first : ℕ → List ℕ → ℕ → Bool
+may-be-first k ids j = cond (ltb j k) true (cond (ltb (j - k) (length ids)) (eqb (getD ids (j - k) 0) j) true)

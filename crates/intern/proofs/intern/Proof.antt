@@ -1,6 +1,6 @@
 use native.Mathlib.Omega.{arith}
-use Prim.Native.Nat.{ℕ, _≤_, _-_}
-use mathlib.Core.Path.{_≡_, sym, _∙_, refl, ap}
+use Prim.Native.Nat.{_≤_, _-_}
+use mathlib.Core.Path.{_≡_, refl}
 use lib.ListN.{length, length-set}
 use Rattle.intern.specs.Numbers.{name-of, Numbered}
 use Rattle.intern.proofs.Numbering.{filled}
@@ -21,7 +21,7 @@ add-number : tie.Need-add-number Inv-loop μ-loop
 add-number c = omega arith
 
 number-requires : tie.Need-number-requires Inv-loop μ-loop
-number-requires c κs = omega arith
+number-requires c κs = (omega arith, λ t h. c .before .before .loop .inv .3 t (omega arith))
 
 mul-ids : tie.Need-mul-ids Inv-loop μ-loop
 mul-ids c = omega arith
@@ -37,7 +37,7 @@ loop-less c = omega arith
 
 loop-again : tie.Need-loop-again Inv-loop μ-loop
 loop-again c =
-    let l = c .before .before .loop in
+    let l = c .before .before .before .loop in
     (omega arith, simp length-set (l .inv .1), simp length-set (l .inv .2), filled _ (l .ids) (l .t) (c .number .result) (omega arith) (c .number .ensures) (l .inv .3))
 
 same-length : tie.Need-same-length Inv-loop μ-loop
