@@ -1,10 +1,10 @@
 -- The universe of two accepted texts, as the parts that the facts and the left-hand strings leave: the texts and quotes of its elements, and their first places.
-use Prim.Native.Nat.{ℕ, zero, suc, _<_}
+use Prim.Native.Nat.{ℕ, zero, suc, _<_, _≤_}
 use mathlib.Core.Path.{_≡_, refl, sym, ap, ap₂, subst, _∙_}
 use mathlib.Core.Bool.{Bool, true, false, _&&_, _||_}
 use mathlib.Core.List.{List, [], _∷_, _++_, map}
 use native.Mathlib.Omega.{arith}
-use borrow.Author.Tests.{lt-ltb}
+use borrow.Author.Tests.{lt-ltb, le-ltb}
 use lib.Dec.{eqb}
 use lib.ListN.{length, getD, take}
 use Rattle.definition.specs.Text.{Text, same, some-of, gather}
@@ -150,3 +150,8 @@ module _ (facts query : Text) where
           (first-in-query facts query t (left-tokens tokens words) no-part (left-strings-within query tokens words ts (w .program) parsed inside)
           ∙ ap (λ (es : List Element). first-part 1 t es no-part) (left-strings-shown query tokens words ts (w .program) parsed)) in
           first ∙ rw (text-there n l, ← h .from-facts, lt-ltb n (elements w) l)
+
+-- "For other n .. it gives the empty part at the query's start"
+pub no-element-part : (w : Accepted) (n : ℕ) → elements w ≤ n → element-part w n ≡ no-part
+unfolding element-part
+no-element-part w n h = rw (le-ltb n (elements w) h)
