@@ -4,7 +4,7 @@ use mathlib.Core.Path.{_≡_}
 use Prim.Native.Nat.{ℕ, zero, suc, _+_, _-_, _*_, _≤_, _<_}
 use lib.ListN.{length, drop, set, getD}
 use Rattle.definition.proofs.GrammarReads.{Reads, Fails}
-use Rattle.definition.specs.Grammar.{Nonterminal, Tree, Statement, Block, Else, Item}
+use Rattle.definition.specs.Grammar.{Nonterminal, Tree, Statement, Item}
 use Rattle.definition.specs.Reader.{phrase}
 use Rattle.definition.specs.Syntax.{says, end}
 use Rattle.definition.specs.Token.{Token, LPAREN, LBRACKET, SEMICOLON, ENDL}
@@ -51,12 +51,6 @@ pub record IsStated (x : Nonterminal) (w : Wording x) (s : ℕ) (ws : List ℕ) 
 
 abbrev pub IsStatement : List ℕ → ℕ → ℕ → ℕ → List ℕ → List ℕ → Answer → Type 0
 IsStatement = IsStated Statement (λ ts t p n. flat-program (says ts t p end) n) 0
-
-abbrev pub IsBlock : List ℕ → ℕ → ℕ → ℕ → List ℕ → List ℕ → Answer → Type 0
-IsBlock = IsStated Block (λ ts t p n. flat-program (says ts t p) n) 0
-
-abbrev pub IsElse : List ℕ → ℕ → ℕ → ℕ → List ℕ → List ℕ → Answer → Type 0
-IsElse = IsStated Else (λ ts t p n. flat-program (says ts t p) n) 0
 
 -- an item has a word more than it has tokens: PRINT or its comma pays for it
 abbrev pub IsItem : List ℕ → ℕ → ℕ → ℕ → List ℕ → List ℕ → Answer → Type 0

@@ -1,0 +1,2 @@
+-- What the functions that read blocks, compound statements and programs answer.
+pub mod Blocks
