@@ -100,7 +100,7 @@ module _ (facts query : Text) (tokens ids relations : List ℕ) (given L : ℕ) 
   tell-apart s t hs ht =
       ap₂ same (token-name s) (token-name t) ∙ faithful all-names (length fs + s) (length fs + t) ∙ ap₂ eqb (sym (have s hs)) (sym (have t ht))
 
-  inside : (t : ℕ) → t < length tokens → getD ids t 0 < L
+  pub inside : (t : ℕ) → t < length tokens → getD ids t 0 < L
   inside t h = rw (have t h) (omega (arith, number-le all-names (length fs + t), count-fs))
 
   module _ (ts : List Token) (stand : Stand query tokens ts) where

@@ -278,7 +278,8 @@ pub fn resolve<'a>(
 ) -> Named
     requires { ⌜ (given ≤ 16) × (length (now relations) ≡ 16) ⌝ }
     requires { ⌜ (length (now tokens) ≤ length (now ids)) × (given + length (now tokens) ≤ length (now known)) ⌝ }
-    ensures { λ r. ⌜ ((ts : List Token) (p : Program) → Parsed (now (query .entry)) (now (tokens .entry)) (now (words .entry)) ts p → Resolved (now (facts .entry)) (now (query .entry)) (now (tokens .entry)) (now (ids .exit)) (now (known .exit)) (now (relations .exit)) r (use-names document-01 (in-program p) (fact-kinds (map (relation-of (now (facts .entry)) (now (query .entry))) (take given (now (relations .entry))))))) ⌝ }
+    ensures kinds { λ r. ⌜ ((ts : List Token) (p : Program) → Parsed (now (query .entry)) (now (tokens .entry)) (now (words .entry)) ts p → Resolved (now (facts .entry)) (now (query .entry)) (now (tokens .entry)) (now (ids .exit)) (now (known .exit)) (now (relations .exit)) r (use-names document-01 (in-program p) (fact-kinds (map (relation-of (now (facts .entry)) (now (query .entry))) (take given (now (relations .entry))))))) ⌝ }
+    ensures numbers { λ _. ⌜ ((t : ℕ) → t < length (now (tokens .entry)) → getD (now (ids .exit)) t 0 < given + length (now (tokens .entry))) ⌝ }
 {
     intern::intern(facts, query, &relations[..given], tokens, ids);
     know_facts(&relations[..given], known);

@@ -1,4 +1,4 @@
-use Rattle.kinds.proofs.Whole.{resolved}
+use Rattle.kinds.proofs.Whole.{resolved, inside}
 use lib.Seq.{length-take-le}
 use mathlib.Core.Path.{sym, refl}
 use native.Mathlib.Omega.{arith}
@@ -37,7 +37,12 @@ same-length-3 : tie.Need-same-length-3
 same-length-3 c = search needs
 
 returns : tie.Need-returns
-returns c = resolved _ _ _ _ _ (c .before .before .before .before .before .before .before .before .before .before .before .before .before .before .before .before .before .before .before .before .before .before .before .before .before .args .given) _ (omega (arith, c .before .before .before .before .before .before .before .before .before .before .before .before .before .before .before .before .before .before .before .before .before .before .before .before .before .pre)) (omega (arith, c .before .before .before .before .before .before .before .before .before .before .before .before .before .before .before .before .before .before .before .before .before .before .before .before .before .pre)) (omega (arith, c .before .before .before .before .before .before .before .before .before .before .before .before .before .before .before .before .before .before .before .before .before .before .before .before .before .pre)) (c .before .before .before .before .before .before .before .before .before .before .before .before .before .before .before .intern .ensures) _ _ _ _ _ refl (c .before .before .before .before .before .before .before .before .before .before .know-facts .ensures) (c .before .before .before .before .use-all .ensures)
+returns c =
+    let s = c .before .before .before .before .before .before .before .before .before .before .before .before .before .before .before .before .before .before .before .before .before .before .before .before .before in
+    let numbered = c .before .before .before .before .before .before .before .before .before .before .before .before .before .before .before .intern .ensures in (
+      resolved _ _ _ _ _ (s .args .given) _ (omega (arith, s .pre)) (omega (arith, s .pre)) (omega (arith, s .pre)) numbered _ _ _ _ _ refl (c .before .before .before .before .before .before .before .before .before .before .know-facts .ensures) (c .before .before .before .before .use-all .ensures),
+      inside _ _ _ (c .before .before .before .before .before .before .before .before .before .before .before .before .before .before .before .intern .last .1 .1 .1 .1 .0) (s .args .relations .now) (s .args .given) _ (omega (arith, s .pre)) (omega (arith, s .pre)) (omega arith) numbered,
+    )
 
 pub resolve-spec : {M : Type 1} → statement M
 resolve-spec =
