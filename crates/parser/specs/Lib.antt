@@ -1,0 +1,2 @@
+-- What reading a query answers.
+pub mod Queries
