@@ -6,7 +6,7 @@ use mathlib.Core.List.{List, []}
 use native.Mathlib.Omega.{arith}
 use borrow.Author.Tests.{eq-eqb, ne-eqb, eqb-true, eqb-false, ltb-true, ltb-false}
 use lib.Dec.{eqb, ltb}
-use lib.ListN.{length, getD, set, take, drop}
+use lib.ListN.{length, getD, set, take, drop, replicate, length-replicate, getD-replicate, List·getD-eq-default}
 use lib.Seq.{getD-set-same, getD-set-other, set-out}
 use native.Mathlib.Numerals.{add-one}
 use Rattle.definition.specs.Text.{Text}
@@ -19,6 +19,21 @@ use Rattle.lowering.specs.Lowering.{at, lower-at, Filled}
 use Rattle.actions.specs.Parts.{is-statement, start}
 use Rattle.coding.specs.Pass.{Depths, depths-after, depths-at, names-between, Made, Passed}
 use Rattle.coding.specs.Turns.{Shallow, Coded, Turned, Upto}
+
+-- lent zeros are below any bound: four digits (Small), depths (Shallow)
+pub zeros-below : (n b : ℕ) → 0 < b → (j : ℕ) → getD (replicate n 0) j 0 < b
+zeros-below n b h j = go (ltb j n) refl
+  where
+    zeros : List ℕ
+    zeros = replicate n 0
+
+    go : (d : Bool) → ltb j n ≡ d → getD (replicate n 0) j 0 < b
+    go true e = let z : getD zeros j 0 ≡ 0 = getD-replicate n j 0 0 (ltb-true j n e) in rw z h
+    go false e =
+        let l = ltb-false j n e in
+        let z : length zeros ≡ n = length-replicate n 0 in
+        let m : length zeros ≤ j = omega arith in
+        rw (List·getD-eq-default zeros 0 m) h
 
 pub shallow-set : (depths : List ℕ) (j v : ℕ) → v < 65536 → Shallow depths → Shallow (set depths j v)
 shallow-set depths j v l h i = go (eqb i j) refl (ltb j (length depths)) refl
