@@ -4,3 +4,5 @@ pub mod Kept
 pub mod Codes
 pub mod Given
 pub mod Agreeing
+pub mod Scoping
+pub mod OneCode
