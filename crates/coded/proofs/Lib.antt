@@ -6,3 +6,12 @@ pub mod Given
 pub mod Agreeing
 pub mod Scoping
 pub mod OneCode
+pub mod Quiet
+pub mod Standing
+pub mod Depth
+pub mod Shapes
+pub mod Moves
+pub mod Programs
+pub mod Steps
+pub mod Whole
+pub mod Coded
