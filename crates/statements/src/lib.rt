@@ -68,8 +68,9 @@ fn tested(tokens: &[u64], words: &mut [u64], p: usize, m: usize, l: usize, c: An
     let Answer::Read(q, f) = c else {
         return c;
     };
+    let other = l + 1;
     words[l] = pack(35, 0, f as u64, 0);
-    words[m] = pack(34, 0, (l + 1) as u64, place(tokens, p));
+    words[m] = pack(34, 0, other as u64, place(tokens, p));
     Answer::Read(q, f)
 }
 

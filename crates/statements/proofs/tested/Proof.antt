@@ -21,6 +21,9 @@ enum-told c = search needs
 returns : tie.Need-returns
 returns c = rw (c .enum-told .given .1) refl
 
+add-other : tie.Need-add-other
+add-other c = let s = tested-space (c .before .before .before .before .before .pre) (c .before .c .given .1) in omega arith
+
 pack-requires : tie.Need-pack-requires
 pack-requires c κs = let s = tested-space (c .before .before .before .before .before .pre) (c .before .c .given .1) in omega arith
 
@@ -29,9 +32,6 @@ mul-words c = let s = tested-space (c .before .before .before .before .before .b
 
 slice-write-words : tie.Need-slice-write-words
 slice-write-words c = let s = tested-space (c .before .before .before .before .before .before .pre) (c .before .before .c .given .1) in omega arith
-
-add-pack : tie.Need-add-pack
-add-pack c = let s = tested-space (c .before .before .before .before .before .before .pre) (c .before .before .c .given .1) in omega arith
 
 place-requires : tie.Need-place-requires
 place-requires c κs = let s = tested-space (c .before .before .before .before .before .before .pre) (c .before .before .c .given .1) in omega arith
@@ -58,10 +58,10 @@ tested-spec =
     enum-known-c
     enum-told
     returns
+    add-other
     pack-requires
     mul-words
     slice-write-words
-    add-pack
     place-requires
     pack-requires-2
     mul-words-2
