@@ -3,10 +3,10 @@ use mathlib.Core.Bool.{Bool, true, false}
 use mathlib.Core.List.{List, [], _∷_, _++_, append-nil}
 use mathlib.Core.Path.{_≡_, refl, ap, sym, subst, _∙_}
 use native.Mathlib.Omega.{arith}
-use Prim.Native.Nat.{ℕ, zero, suc, _+_, _/_, _≤_, _<_}
+use Prim.Native.Nat.{ℕ, zero, suc, _+_, _≤_, _<_}
 use lib.Dec.{eqb, ltb}
 use lib.ListN.{length, take, drop, getD, List·getD-eq-default}
-use lib.Seq.{sets, sets-eq, take-append-seam, length-take-le}
+use lib.Seq.{sets-eq, take-append-seam, length-take-le}
 use borrow.Author.Tests.{lt-ltb, le-ltb, ltb-true, ltb-false}
 use Rattle.definition.proofs.AnswerLaws.{GrammarRows, good, row-10, row-13, grammar-rows}
 use Rattle.definition.proofs.GrammarFlat.{read-flat}
@@ -14,18 +14,16 @@ use Rattle.definition.specs.Accept.{lexed-answer, read-answer, read-query}
 use Rattle.definition.specs.Answer as Answers
 use Rattle.definition.specs.Answer.{Answer, ok, refused, number, place, _>>=_, _>>_, refuse-if}
 use Rattle.definition.specs.declared.Refusal.{Refusal}
-use Rattle.definition.specs.declared.Refusal.the-variants.{NoProgram, TooMuch}
 use Rattle.definition.specs.Grammar.{Tree}
 use Rattle.definition.specs.Grammar as Grammar
 use Rattle.definition.specs.Limits.{QUERY-BYTES, TOKENS}
 use Rattle.definition.specs.Reader.{phrase, read-as, read-program}
 use Rattle.definition.specs.Syntax.{Program, says}
 use Rattle.definition.specs.Text.{Text, if_then_else_}
-use Rattle.definition.specs.Token.{Terminal, Token, terminals, token-at, place-at, lexed}
+use Rattle.definition.specs.Token.{Token, terminals, token-at, place-at, lexed}
 use Rattle.definition.specs.Token as Token
 use Rattle.intern.proofs.Lexed.{lexed-stand}
-use Rattle.kinds.specs.Resolved.{Parsed}
-use Rattle.lexer.proofs.Held.{length-tokens, length-terminals, terminals-held, token-held, place-held, place-past, query-read}
+use Rattle.lexer.proofs.Held.{length-tokens, terminals-held, token-held, place-held, place-past, query-read}
 use Rattle.lexer.specs.Answers.{query-tokens, answer, count-of}
 use Rattle.lexer.specs.declared.Lexed.{Lexed}
 use Rattle.lexer.specs.declared.Lexed.the-variants.{Tokens}
@@ -36,13 +34,12 @@ use Rattle.parser.specs.declared.QueryRead.the-variants as QueryRead
 use Rattle.parser.specs.Queries.{ReadAs, IsRead, Lexes, IsParsed, place-in, RefusedAt, too-deep, no-program}
 use Rattle.simple.specs.Statements.{Places}
 use Rattle.statements.proofs.SequenceLaws.{tokens-hold}
-use Rattle.statements.specs.Blocks.{Whole, whole, ends, IsProgram}
+use Rattle.statements.specs.Blocks.{whole, ends, IsProgram}
 use Rattle.terms.specs.declared.Answer as Parser
 use Rattle.terms.specs.declared.Answer.the-variants.{Read, Refused}
 use Rattle.terms.specs.Phrases.{Wrote}
 use Rattle.words.proofs.Said.{Numbered, AllNumbered, said}
 use Rattle.words.proofs.Sizes.{length-program}
-use Rattle.words.specs.Raw.{size-program, flat-program}
 use Rattle.words.specs.Tokens.{OwnProgram}
 
 -- a query that has tokens is not too long

@@ -1,7 +1,7 @@
 -- A query as its tokens and the words of its program, or the refusal of rows 8, 9, 10 and 13 as the definition has it.
 use mathlib.Core.List.{List}
 use mathlib.Core.Path.{_≡_}
-use Prim.Native.Nat.{ℕ, _≤_, _<_}
+use Prim.Native.Nat.{ℕ, _≤_}
 use lib.Dec.{ltb}
 use lib.ListN.{length, take, getD}
 use Rattle.definition.specs.Accept.{read-query}

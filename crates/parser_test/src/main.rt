@@ -1,7 +1,5 @@
 // Prints the words that worked queries give: a line for each, with the number of tokens and of words and then kind and three fields of each
 // word, or the row and the place of the refusal.
-ghost use lib.ListN.{length};
-ghost use Prim.Native.Nat.{_≤_};
 use definition::Refusal;
 use libc::STDOUT_FILENO;
 use parser::QueryRead;

@@ -1,28 +1,27 @@
 -- Blocks and ELSE: a sequence of statements at a level of its own.
 use mathlib.Core.Bool.{Bool, true, false}
-use mathlib.Core.List.{List, [], _∷_, _++_, append-nil}
+use mathlib.Core.List.{List, [], _∷_, append-nil}
 use mathlib.Core.Path.{_≡_, refl, ap, sym, subst, _∙_}
 use native.Mathlib.Omega.{arith}
 use Prim.Native.Nat.{ℕ, suc, _+_, _≤_, _<_}
 use lib.Dec.{eqb}
 use lib.ListN.{length, drop}
 use borrow.Author.Tests.{eqb-true, eqb-false}
-use Rattle.definition.proofs.GrammarReads.{Reads, Fails, Stands, like-eq, act, read!, fail!, deep!, as!, as-fails!, _▸_, _▹_, stop!, done!, closed!, token!, no-token! }
+use Rattle.definition.proofs.GrammarReads.{Stands, like-eq, act, read!, fail!, deep!, as!, as-fails!, _▸_, _▹_, stop!, done!, closed!, token!, no-token! }
 use Rattle.definition.proofs.GrammarStatements.{block-rule, no-block!, else-rule, no-else! }
-use Rattle.definition.specs.Grammar.{Nonterminal, Tree, Statement, MoreStatements, Block, Else}
+use Rattle.definition.specs.Grammar.{Tree, Statement, MoreStatements, Block}
 use Rattle.definition.specs.Grammar as Grammar
-use Rattle.definition.specs.Reader.{Symbol, phrase, fixed, level-end, on-key, wrap}
+use Rattle.definition.specs.Reader.{phrase, fixed, level-end, on-key, wrap}
 use Rattle.definition.specs.Syntax.{says, size, end}
 use Rattle.definition.specs.Text.{if_then_else_}
 use Rattle.definition.specs.Token.{Token, Terminal, key, LBRACE, RBRACE, ELSE}
-use Rattle.simple.proofs.AssignLaws.{unstated}
-use Rattle.simple.specs.Statements.{Span, spans, stated, IsStated, IsStatement}
-use Rattle.statements.specs.Blocks.{Sequence, sequenced, IsSequence, IsBlock, IsElse, closed}
+use Rattle.simple.specs.Statements.{IsStatement}
+use Rattle.statements.specs.Blocks.{IsSequence, IsBlock, IsElse, closed}
 use Rattle.terms.proofs.TokenLaws.{kind-within, key-first, not-key}
 use Rattle.terms.proofs.WriteLaws.{wrote-none, wrote-as}
 use Rattle.terms.specs.declared.Answer.{Answer}
 use Rattle.terms.specs.declared.Answer.the-variants.{Read, Refused}
-use Rattle.terms.specs.Phrases.{kind-in, seen, Holds, Wrote}
+use Rattle.terms.specs.Phrases.{kind-in, seen}
 use Rattle.words.specs.Raw.{flat-program}
 
 -- what a block says

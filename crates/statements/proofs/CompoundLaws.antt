@@ -15,14 +15,14 @@ use Rattle.definition.specs.Token.{Token, Terminal, token-at, IF, WHILE, FOR, I
 use Rattle.expressions.proofs.OperatorLaws.{paid-of, got-of}
 use Rattle.lexer.specs.Tokens.{at-of, NAME}
 use Rattle.simple.proofs.AssignLaws.{unstated}
-use Rattle.simple.specs.Statements.{Places, Stated, stated, Span, spans, IsStatement}
+use Rattle.simple.specs.Statements.{Places, Span, spans, IsStatement}
 use Rattle.statements.proofs.SequenceLaws.{read-size}
 use Rattle.statements.specs.Blocks.{IsBlock, IsElse, Headed, no-name, no-in, headed, Space, TestedRoom, Tested, LoopRoom, Repeated, Ranged}
 use Rattle.terms.proofs.TokenLaws.{kind-within, key-first, key-then, name-then, name-number, place-of, not-key, not-name}
 use Rattle.terms.proofs.WriteLaws.{wrote-one, wrote-then, wrote-next, wrote-before, wrote-as}
 use Rattle.terms.specs.declared.Answer.{Answer}
 use Rattle.terms.specs.declared.Answer.the-variants.{Read, Refused}
-use Rattle.terms.specs.Phrases.{kind-in, seen, Holds, Wrote, Got, Paid, IsExpression}
+use Rattle.terms.specs.Phrases.{kind-in, seen, Wrote, IsExpression}
 use Rattle.words.proofs.Sizes.{length-flat, length-program}
 use Rattle.words.specs.Fields.{word, BIND, RANGE, NEXT, TEST, JUMP, AGAIN}
 use Rattle.words.specs.Raw as Raw

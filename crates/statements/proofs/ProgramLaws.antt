@@ -1,6 +1,6 @@
 -- A whole program: what is left to say once its statements are read.
 use mathlib.Core.List.{List, [], _∷_}
-use mathlib.Core.Path.{_≡_, refl, ap, sym, subst, _∙_}
+use mathlib.Core.Path.{_≡_, ap, sym, subst, _∙_}
 use native.Mathlib.Omega.{arith}
 use Prim.Native.Nat.{ℕ, _+_, _≤_, _<_}
 use lib.ListN.{length, drop, length-map, drop-of-length-le}
@@ -16,11 +16,11 @@ use Rattle.definition.specs.Token.{Token, terminals}
 use Rattle.lexer.proofs.Held.{length-terminals}
 use Rattle.lexer.specs.Tokens.{at-of}
 use Rattle.simple.specs.Statements.{Span, spans}
-use Rattle.statements.specs.Blocks.{Sequence, sequenced, IsSequence, Whole, IsProgram}
+use Rattle.statements.specs.Blocks.{Sequence, sequenced, IsSequence, IsProgram}
 use Rattle.terms.proofs.WriteLaws.{wrote-as}
 use Rattle.terms.specs.declared.Answer.{Answer}
 use Rattle.terms.specs.declared.Answer.the-variants.{Read, Refused}
-use Rattle.terms.specs.Phrases.{seen, Holds, Wrote}
+use Rattle.terms.specs.Phrases.{Holds}
 use Rattle.words.specs.Raw.{flat-program}
 
 program-said : (ts : List Token) (a : Tree Statement) (b : Tree MoreStatements) (q : ℕ) → q ≡ 0 + size a → flat-program (says ts a 0 (says ts b q)) 0 ≡ flat-program (says ts (Grammar.program a b)) 0

@@ -3,7 +3,7 @@ use mathlib.Core.Bool.{Bool, true, false, not}
 use mathlib.Core.List.{List, [], _∷_, _++_, map, append-assoc, append-nil}
 use mathlib.Core.Path.{_≡_, refl, ap, sym, subst, _∙_}
 use native.Mathlib.Omega.{arith}
-use Prim.Native.Nat.{ℕ, zero, suc, _+_, _-_, _≤_, _<_}
+use Prim.Native.Nat.{ℕ, suc, _+_, _-_, _≤_, _<_}
 use lib.ListN.{length, drop}
 use Rattle.definition.proofs.BoolLaws.{apart}
 use Rattle.definition.proofs.GrammarFlat.{reads-size}
@@ -15,13 +15,13 @@ use Rattle.definition.specs.Reader.{phrase}
 use Rattle.definition.specs.Syntax as Syntax
 use Rattle.definition.specs.Syntax.{says, size, end, assign, print, test, while, for, block}
 use Rattle.definition.specs.Text.{Text}
-use Rattle.definition.specs.Token.{Token, Terminal}
+use Rattle.definition.specs.Token.{Token}
 use Rattle.expressions.proofs.OperatorLaws.{left}
 use Rattle.lexer.proofs.Held.{length-terminals, terminals-held}
 use Rattle.lexer.specs.Tokens.{at-of, tokens-of}
 use Rattle.simple.proofs.AssignLaws.{unstated}
-use Rattle.simple.specs.Statements.{Span, spans, stated, IsStatement}
-use Rattle.statements.specs.Blocks.{First, a-name, an-if, a-while, a-for, a-brace, a-print, NotFirst, Begins, Sequence, sequenced, IsSequence}
+use Rattle.simple.specs.Statements.{Span, spans, IsStatement}
+use Rattle.statements.specs.Blocks.{First, a-name, an-if, a-while, a-for, a-brace, a-print, NotFirst, Begins, IsSequence}
 use Rattle.terms.proofs.TokenLaws.{key-first, name-first, not-key, not-name}
 use Rattle.terms.proofs.WriteLaws.{wrote-then, wrote-as}
 use Rattle.terms.specs.declared.Answer.{Answer}

@@ -1,5 +1,3 @@
-use native.Mathlib.Omega.{arith}
-use mathlib.Core.Path.{_≡_, refl, sym, ap, subst, _∙_}
 use Rattle.parser.proofs.QueryLaws.{place-inside, place-outside}
 use borrow.Author.Needs.{needs}
 use Rattle.parser.proofs.place_at.Statement.{statement}

@@ -1,5 +1,4 @@
 use native.Mathlib.Omega.{arith}
-use mathlib.Core.Path.{_≡_, refl, sym, ap, subst, _∙_}
 use Rattle.parser.proofs.QueryLaws.{places, tokens-read, tokens-refused}
 use borrow.Author.Needs.{needs}
 use Rattle.parser.proofs.read_tokens.Statement.{statement}

@@ -1,5 +1,3 @@
-use native.Mathlib.Omega.{arith}
-use mathlib.Core.Path.{_≡_, refl, sym, ap, subst, _∙_}
 use Rattle.parser.specs.Queries.{too-deep, no-program}
 use borrow.Author.Needs.{needs}
 use Rattle.parser.proofs.refusal.Statement.{statement}

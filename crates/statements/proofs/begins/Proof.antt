@@ -1,5 +1,5 @@
-use mathlib.Core.Path.{_≡_, sym, _∙_}
-use Rattle.statements.specs.Blocks.{a-name, an-if, a-while, a-for, a-brace, a-print, NotFirst}
+use mathlib.Core.Path.{sym, _∙_}
+use Rattle.statements.specs.Blocks.{a-name, an-if, a-while, a-for, a-brace, a-print}
 use borrow.Author.Needs.{needs}
 use Rattle.statements.proofs.begins.Statement.{statement}
 use Rattle.statements.proofs.begins.Tie as tie

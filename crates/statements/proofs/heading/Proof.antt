@@ -1,4 +1,4 @@
-use mathlib.Core.Path.{_≡_, sym, ap, _∙_}
+use mathlib.Core.Path.{sym, ap, _∙_}
 use lib.ListN.{set}
 use Rattle.statements.specs.Blocks.{no-name, no-in, headed}
 use borrow.Author.Needs.{needs}
