@@ -14,8 +14,9 @@ use Rattle.definition.specs.Answer.{Answer, ok, refusal}
 use Rattle.definition.specs.Facts.{Line, Fact, Facts, cut, lines, fact-lines, read-lines}
 use Rattle.definition.specs.declared.Refusal.{Refusal}
 use Rattle.definition.proofs.TextLaws.{cut-line, later-lines, no-end}
-use Rattle.parts.specs.Entries.{Held, note-all, enter-all}
-use Rattle.parts.proofs.HeldLaws.{held-take, held-length, held-then, note-all-append, note-all-longer, enter-all-append, enter-all-longer}
+use Rattle.definition.proofs.UniverseLaws.{Ascending}
+use Rattle.parts.specs.Entries.{Held, note-all, enter-all, texts-of}
+use Rattle.parts.proofs.HeldLaws.{enter-all-ascending, held-take, held-length, held-then, note-all-append, note-all-longer, enter-all-append, enter-all-longer}
 use Rattle.facts.specs.declared.Counts.{Counts}
 use Rattle.facts.specs.declared.LineTaken.the-variants.{More, Dot, Fails}
 use Rattle.facts.specs.declared.FactsRead.the-variants.{Given, Refused}
@@ -97,6 +98,12 @@ module _ (facts query : Text) where
           relations = record { count = refl; room = omega arith; is = refl };
           elements = record { count = refl; room = omega arith; is = refl };
         }
+
+    pub reading-ascending : {ls : List Line} {rs us : List ℕ} {c : Counts} → Reading ls rs us c → Ascending (texts-of facts query (take (c .elements) us))
+    unfolding entered
+    reading-ascending h =
+        subst (λ (ws : List ℕ). Ascending (texts-of facts query ws)) (sym (held-take (h .elements)))
+        (enter-all-ascending facts query (gather (λ f. map element-word (f .elements)) (h .so-far)) [] tt)
 
     pub reading-end : {rs us rs′ us′ : List ℕ} {c : Counts} → Reading [] rs us c → rs′ ≡ rs → us′ ≡ us → LinesRead facts query rs₀ rs′ us₀ us′ (Given c)
     unfolding read-lines gather

@@ -18,7 +18,8 @@ use Rattle.parts.specs.Packed.{pack, text-of, part-of}
 use Rattle.parts.specs.Entries.{enter, enter-all, texts-of, in-front, count-in, Held}
 use Rattle.parts.specs.declared.Entered.the-variants.{Count, Full}
 use Rattle.parts.proofs.PackLaws.{pack-part}
-use Rattle.parts.proofs.HeldLaws.{length-texts, texts-enter, enter-longer, enter-all-append, held-first, held-take, held-length, held-then, held-front, no-room}
+use Rattle.definition.proofs.UniverseLaws.{Ascending}
+use Rattle.parts.proofs.HeldLaws.{length-texts, texts-enter, enter-all-ascending, enter-longer, enter-all-append, held-first, held-take, held-length, held-then, held-front, no-room}
 use Rattle.facts.specs.declared.Item.{Item}
 use Rattle.facts.specs.declared.FactLine.{FactLine}
 use Rattle.facts.specs.declared.ElementsUsed.the-variants.{Elements, TooMany}
@@ -96,6 +97,11 @@ module _ (facts query : Text) (a : ℕ) (f : FactLine) (old : List ℕ) (n : ℕ
           subst (λ (xs : List Item). Held old words (enter-all facts query (map (item-word a) xs) (take n old)) count) e (h .held),
           λ k. h .uses k ∙ rw (d, e),
         )
+
+    pub entering-ascending : Ascending (texts-of facts query (take n old)) → Ascending (texts-of facts query (take count words))
+    unfolding entered-to
+    entering-ascending o =
+        subst (λ (ws : List ℕ). Ascending (texts-of facts query ws)) (sym (held-take (h .held))) (enter-all-ascending facts query (map (item-word a) (take i (items-of f))) (take n old) o)
 
     module _ (small : f .arity ≤ ARITY) (l : i < f .arity) (short : item-at f i .len ≤ WORD-BYTES) where
       abbrev v : ℕ

@@ -6,6 +6,8 @@ ghost use lib.ListN.{length, getD, take, drop, replicate};
 ghost use Rattle.definition.specs.Text.{Text, starts};
 ghost use Rattle.definition.specs.Limits.{ARITY, WORD-BYTES, FACT-BYTES};
 ghost use Rattle.definition.specs.Facts.{word, fact, last-place, fact-lines, bytes-read};
+ghost use Rattle.definition.proofs.UniverseLaws.{Ascending};
+ghost use Rattle.parts.specs.Entries.{texts-of};
 ghost use Rattle.facts.specs.Lines.{Within, AllWithin, NextWithin, ReadWithin, items-of, item-at, line-at, next-word, word-of, Role, says, says-elements, role, role-of};
 ghost use Rattle.facts.specs.Words.{elements-at, item-word};
 ghost use Rattle.facts.specs.Pass.{RelationUsed, UniverseUsed, FactTaken};
@@ -13,7 +15,7 @@ ghost use Rattle.facts.specs.Reading.{line-of, Taken, LinesRead, BytesRe
 ghost use Rattle.facts.specs.Again.{FactOfLine, NextIs};
 use definition::Refusal;
 use parts::Entered;
-use parts::enter_part;
+use parts::enter_again;
 use parts::index_of;
 use parts::packed;
 use texts::Class;
@@ -298,7 +300,7 @@ fn use_elements<'a>(
     a: usize,
     f: FactLine,
 ) -> ElementsUsed
-    requires { ⌜ (n ≤ length (now universe)) × (a ≤ length (now facts)) × (length (now facts) ≤ FACT-BYTES) × AllWithin (length (now facts) - a) f ⌝ }
+    requires { ⌜ (n ≤ length (now universe)) × (a ≤ length (now facts)) × (length (now facts) ≤ FACT-BYTES) × AllWithin (length (now facts) - a) f × Ascending (texts-of (now facts) (now query) (take n (now universe))) ⌝ }
     ensures { λ r. ⌜ UniverseUsed (now (facts .entry)) (now (query .entry)) a f (now (universe .entry)) (now (universe .exit)) n r ⌝ }
 {
     let arity = f.arity;
@@ -306,7 +308,7 @@ fn use_elements<'a>(
     let mut i: usize = 0;
     while i < arity {
         let x = item_at(f, i);
-        match enter_part(facts, query, universe, count, element_word(a, x)) {
+        match enter_again(facts, query, universe, count, element_word(a, x)) {
             Entered::Full => return ElementsUsed::TooMany(a + x.place),
             Entered::Count(m) => {
                 count = m;
@@ -351,7 +353,7 @@ fn with_fact<'a>(
     a: usize,
     f: FactLine,
 ) -> FactUsed
-    requires { ⌜ (c .relations ≤ length (now relations)) × (c .elements ≤ length (now universe)) × (a ≤ length (now facts)) × (length (now facts) ≤ FACT-BYTES) × AllWithin (length (now facts) - a) f ⌝ }
+    requires { ⌜ (c .relations ≤ length (now relations)) × (c .elements ≤ length (now universe)) × (a ≤ length (now facts)) × (length (now facts) ≤ FACT-BYTES) × AllWithin (length (now facts) - a) f × Ascending (texts-of (now facts) (now query) (take (c .elements) (now universe))) ⌝ }
     ensures { λ r. ⌜ FactTaken (now (facts .entry)) (now (query .entry)) a f (now (relations .entry)) (now (relations .exit)) (now (universe .entry)) (now (universe .exit)) c r ⌝ }
 {
     let n = c.relations;
@@ -392,7 +394,7 @@ fn take_line<'a>(
     a: usize,
     e: usize,
 ) -> LineTaken
-    requires { ⌜ (c .relations ≤ length (now relations)) × (c .elements ≤ length (now universe)) × (a ≤ e) × (e ≤ length (now facts)) × (length (now facts) ≤ FACT-BYTES) ⌝ }
+    requires { ⌜ (c .relations ≤ length (now relations)) × (c .elements ≤ length (now universe)) × (a ≤ e) × (e ≤ length (now facts)) × (length (now facts) ≤ FACT-BYTES) × Ascending (texts-of (now facts) (now query) (take (c .elements) (now universe))) ⌝ }
     ensures { λ r. ⌜ Taken (now (facts .entry)) (now (query .entry)) (line-of (now (facts .entry)) a e) (now (relations .entry)) (now (relations .exit)) (now (universe .entry)) (now (universe .exit)) c r ⌝ }
 {
     match read_line(&facts[a..e]) {

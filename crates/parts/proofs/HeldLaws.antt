@@ -11,6 +11,7 @@ use borrow.Author.Tests.{le-ltb, lt-ltb, ltb-false, ltb-true}
 use Rattle.definition.specs.Text.{Text, same, earlier, span}
 use Rattle.definition.specs.Facts.{insert}
 use Rattle.definition.specs.Calls.{Part, part-text}
+use Rattle.definition.proofs.UniverseLaws.{Ascending, insert-ascending}
 use Rattle.parts.specs.Packed.{text-of}
 use Rattle.parts.specs.Entries.{quoted-too, index, enter, enter-all, note, note-all, texts-of, in-front, count-in, Held}
 use Rattle.parts.specs.declared.Entered.{Entered}
@@ -43,6 +44,15 @@ texts-enter facts query v (w ∷ ws) = go (same t u) (earlier t u) (texts-enter 
     go true b ih = ap (λ (x : Text). x ∷ texts-of facts query ws) (quoted-text facts query v w)
     go false true ih = refl
     go false false ih = ap (λ (xs : List Text). u ∷ xs) ih
+
+-- entering keeps byte order
+pub enter-ascending : (facts query : Text) (v : ℕ) (ws : List ℕ) → Ascending (texts-of facts query ws) → Ascending (texts-of facts query (enter facts query v ws))
+enter-ascending facts query v ws a = subst Ascending (sym (texts-enter facts query v ws)) (insert-ascending (text-of facts query v) (texts-of facts query ws) a)
+
+pub enter-all-ascending : (facts query : Text) (vs ws : List ℕ) → Ascending (texts-of facts query ws) → Ascending (texts-of facts query (enter-all facts query vs ws))
+unfolding enter-all
+enter-all-ascending facts query [] ws a = a
+enter-all-ascending facts query (v ∷ vs) ws a = enter-all-ascending facts query vs (enter facts query v ws) (enter-ascending facts query v ws a)
 
 pub enter-longer : (facts query : Text) (v : ℕ) (ws : List ℕ) → length ws ≤ length (enter facts query v ws)
 unfolding enter

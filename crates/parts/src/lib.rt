@@ -4,8 +4,9 @@ ghost use mathlib.Core.List.{_∷_, _++_};
 ghost use Prim.Native.Nat.{ℕ, _+_, _≤_, _<_};
 ghost use lib.ListN.{length, getD, take, drop};
 ghost use Rattle.parts.specs.Packed.{pack, text-of};
-ghost use Rattle.parts.specs.Entries.{quoted-too, index, enter, in-front, count-in};
-ghost use Rattle.parts.specs.Places.{entered-at, PlaceWithin};
+ghost use Rattle.definition.proofs.UniverseLaws.{Ascending};
+ghost use Rattle.parts.specs.Entries.{quoted-too, index, enter, in-front, count-in, texts-of};
+ghost use Rattle.parts.specs.Places.{entered-at, PlaceWithin, Finds};
 use texts::Order;
 use texts::compare;
 use texts::same;
@@ -147,4 +148,48 @@ pub fn enter_part<'a>(
             Entered::Count(n + 1)
         }
     }
+}
+
+// Where a part with the text of v is met when each step halves a sorted list; the number of parts, if none is.
+fn find_part<'a>(facts: &'a [u8], query: &'a [u8], parts: &[usize], v: usize) -> usize
+    ensures { λ r. ⌜ Finds (now (facts .entry)) (now (query .entry)) v (now (parts .entry)) r ⌝ }
+{
+    let text = text_of(facts, query, v);
+    let mut low: usize = 0;
+    let mut high = parts.len();
+    while low < high {
+        let p = low + (high - low) / 2;
+        let w = parts[p];
+        match compare(text, text_of(facts, query, w)) {
+            Order::Same => return p,
+            Order::Before => {
+                high = p;
+            }
+            Order::After => {
+                low = p + 1;
+            }
+        }
+    }
+    parts.len()
+}
+
+// As `enter_part`, in few steps where the text is there: most elements of facts come again.
+pub fn enter_again<'a>(
+    facts: &'a [u8],
+    query: &'a [u8],
+    words: &mut [usize],
+    n: usize,
+    v: usize,
+) -> Entered
+    requires { ⌜ (n ≤ length (now words)) × Ascending (texts-of (now facts) (now query) (take n (now words))) ⌝ }
+    ensures value { λ r. ⌜ r ≡ count-in (enter (now (facts .entry)) (now (query .entry)) v (take n (now (words .entry)))) (now (words .entry)) ⌝ }
+    ensures words { λ _. ⌜ now (words .exit) ≡ in-front (enter (now (facts .entry)) (now (query .entry)) v (take n (now (words .entry)))) (now (words .entry)) ⌝ }
+{
+    let p = find_part(facts, query, &words[..n], v);
+    if p < n {
+        let w = words[p];
+        words[p] = quoted_too(v, w);
+        return Entered::Count(n);
+    }
+    enter_part(facts, query, words, n, v)
 }

@@ -10,7 +10,7 @@ use lib.ListN.{length, drop}
 use Rattle.definition.specs.Facts.{Line, cut, lines}
 use Rattle.parts.proofs.HeldLaws.{held-length}
 use Rattle.facts.specs.Reading.{line-of, Taken}
-use Rattle.facts.proofs.ReadingLaws.{lines-dot, lines-last, lines-more, Reading, reading-start, reading-end, reading-fails, reading-more}
+use Rattle.facts.proofs.ReadingLaws.{lines-dot, lines-last, lines-more, Reading, reading-start, reading-ascending, reading-end, reading-fails, reading-more}
 use Rattle.facts.proofs.ReadingLaws.{fails-at}
 
 abbrev Inv-loop : tie.InvT-loop
@@ -26,7 +26,7 @@ run-end-requires : tie.Need-run-end-requires Inv-loop μ-loop
 run-end-requires c κs = c .loop .inv .0
 
 take-line-requires : tie.Need-take-line-requires Inv-loop μ-loop
-take-line-requires c κs = let h = c .before .before .before .loop .inv .3 in (omega (arith, h .relations .room, held-length (h .relations)), omega (arith, h .elements .room, held-length (h .elements)), c .before .before .run-end .ensures .1 .0, c .before .before .run-end .ensures .1 .1, c .before .before .before .before .before .before .before .before .pre)
+take-line-requires c κs = let h = c .before .before .before .loop .inv .3 in (omega (arith, h .relations .room, held-length (h .relations)), omega (arith, h .elements .room, held-length (h .elements)), c .before .before .run-end .ensures .1 .0, c .before .before .run-end .ensures .1 .1, c .before .before .before .before .before .before .before .before .pre, reading-ascending _ _ _ _ h)
 
 enum-told : tie.Need-enum-told Inv-loop μ-loop
 enum-told c = search needs

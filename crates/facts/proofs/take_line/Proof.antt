@@ -50,7 +50,7 @@ enum-known-f : tie.Need-enum-known-f
 enum-known-f c = search needs
 
 with-fact-requires : tie.Need-with-fact-requires
-with-fact-requires c κs = (c .before .before .before .before .before .before .before .before .before .before .before .pre .0, c .before .before .before .before .before .before .before .before .before .before .before .pre .1, omega (arith, c .before .before .before .before .before .before .before .before .before .before .before .pre), c .before .before .before .before .before .before .before .before .before .before .before .pre .4, all-wider _ _ _ (omega (arith, line-size (now (c .before .before .before .before .before .before .before .before .before .before .before .args .facts)) (c .before .before .before .before .before .before .before .before .before .before .before .args .a) (c .before .before .before .before .before .before .before .before .before .before .before .args .e) (c .before .before .before .before .before .before .before .before .before .before .before .pre .2) (c .before .before .before .before .before .before .before .before .before .before .before .pre .3), c .before .before .before .before .before .before .before .before .before .before .before .pre)) (subst (ReadWithin (length (take (c .before .before .before .before .before .before .before .before .before .before .before .args .e - c .before .before .before .before .before .before .before .before .before .before .before .args .a) (drop (c .before .before .before .before .before .before .before .before .before .before .before .args .a) (now (c .before .before .before .before .before .before .before .before .before .before .before .args .facts)))))) (c .before .before .before .f .given .1) (c .before .before .before .before .before .read-line .ensures .1)))
+with-fact-requires c κs = (c .before .before .before .before .before .before .before .before .before .before .before .pre .0, c .before .before .before .before .before .before .before .before .before .before .before .pre .1, omega (arith, c .before .before .before .before .before .before .before .before .before .before .before .pre), c .before .before .before .before .before .before .before .before .before .before .before .pre .4, all-wider _ _ _ (omega (arith, line-size (now (c .before .before .before .before .before .before .before .before .before .before .before .args .facts)) (c .before .before .before .before .before .before .before .before .before .before .before .args .a) (c .before .before .before .before .before .before .before .before .before .before .before .args .e) (c .before .before .before .before .before .before .before .before .before .before .before .pre .2) (c .before .before .before .before .before .before .before .before .before .before .before .pre .3), c .before .before .before .before .before .before .before .before .before .before .before .pre)) (subst (ReadWithin (length (take (c .before .before .before .before .before .before .before .before .before .before .before .args .e - c .before .before .before .before .before .before .before .before .before .before .before .args .a) (drop (c .before .before .before .before .before .before .before .before .before .before .before .args .a) (now (c .before .before .before .before .before .before .before .before .before .before .before .args .facts)))))) (c .before .before .before .f .given .1) (c .before .before .before .before .before .read-line .ensures .1)), c .before .before .before .before .before .before .before .before .before .before .before .pre .5)
 
 enum-known-q : tie.Need-enum-known-q
 enum-known-q c = search needs

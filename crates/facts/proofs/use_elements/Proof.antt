@@ -7,7 +7,7 @@ use native.Mathlib.Omega.{arith}
 use denote.Ref.{now}
 use lib.ListN.{length}
 use Rattle.parts.proofs.HeldLaws.{held-length}
-use Rattle.facts.proofs.UseLaws.{within-item, Entering, entering-start, entering-end, entering-full, entering-next}
+use Rattle.facts.proofs.UseLaws.{within-item, Entering, entering-start, entering-end, entering-full, entering-next, entering-ascending}
 
 abbrev Inv-loop : tie.InvT-loop
 Inv-loop facts query universe₀ n a f arity count₀ i₀ universe count i = (length universe ≡ length universe₀) × (i ≤ arity) × Entering facts query a f universe₀ n universe count i
@@ -24,8 +24,8 @@ item-at-requires c κs = search needs
 element-word-requires : tie.Need-element-word-requires Inv-loop μ-loop
 element-word-requires c κs = let w = within-item _ _ (c .before .before .before .loop .i) (c .before .before .before .before .before .before .before .pre .3) in let e = c .before .item-at .ensures in (omega arith, rw e (omega (arith, w .place)), rw e (w .len))
 
-enter-part-requires : tie.Need-enter-part-requires Inv-loop μ-loop
-enter-part-requires c κs = omega (arith, c .before .before .before .before .loop .inv .2 .held .room, c .before .before .before .before .loop .inv .0)
+enter-again-requires : tie.Need-enter-again-requires Inv-loop μ-loop
+enter-again-requires c κs = (omega (arith, c .before .before .before .before .loop .inv .2 .held .room, c .before .before .before .before .loop .inv .0), let s = c .before .before .before .before .before .before .before .before in entering-ascending (now (s .args .facts)) (now (s .args .query)) (s .args .a) (s .args .f) (now (s .args .universe)) (s .args .n) (c .before .before .before .before .loop .universe) (c .before .before .before .before .loop .count) (c .before .before .before .before .loop .i) (c .before .before .before .before .loop .inv .2) (s .pre .4))
 
 enum-told : tie.Need-enum-told Inv-loop μ-loop
 enum-told c = search needs
@@ -37,7 +37,7 @@ same-length : tie.Need-same-length Inv-loop μ-loop
 same-length c = search needs
 
 returns : tie.Need-returns Inv-loop μ-loop
-returns c = rw (c .before .before .before .before .before .before .before .before .item-at .ensures) (entering-full (now (c .before .before .before .before .before .before .before .before .before .before .before .before .before .before .args .facts)) (now (c .before .before .before .before .before .before .before .before .before .before .before .before .before .before .args .query)) (c .before .before .before .before .before .before .before .before .before .before .before .before .before .before .args .a) (c .before .before .before .before .before .before .before .before .before .before .before .before .before .before .args .f) (now (c .before .before .before .before .before .before .before .before .before .before .before .before .before .before .args .universe)) (c .before .before .before .before .before .before .before .before .before .before .before .before .before .before .args .n) (c .before .before .before .before .before .before .before .before .before .before .loop .universe) (c .before .before .before .before .before .before .before .before .before .before .loop .count) (c .before .before .before .before .before .before .before .before .before .before .loop .i) (c .before .before .before .before .before .before .before .before .before .before .loop .inv .2) (c .before .before .before .before .before .before .before .before .before .before .before .before .before .before .pre .3 .arity) (c .before .before .before .before .before .before .before .before .before .loop-test .taken) (within-item _ _ (c .before .before .before .before .before .before .before .before .before .before .loop .i) (c .before .before .before .before .before .before .before .before .before .before .before .before .before .before .pre .3) .len) (sym (c .before .enum-told .given .1) ∙ c .before .before .before .before .before .enter-part .ensures .0 ∙ rw (c .before .before .before .before .before .before .element-word .ensures, c .before .before .before .before .before .before .before .before .item-at .ensures)))
+returns c = rw (c .before .before .before .before .before .before .before .before .item-at .ensures) (entering-full (now (c .before .before .before .before .before .before .before .before .before .before .before .before .before .before .args .facts)) (now (c .before .before .before .before .before .before .before .before .before .before .before .before .before .before .args .query)) (c .before .before .before .before .before .before .before .before .before .before .before .before .before .before .args .a) (c .before .before .before .before .before .before .before .before .before .before .before .before .before .before .args .f) (now (c .before .before .before .before .before .before .before .before .before .before .before .before .before .before .args .universe)) (c .before .before .before .before .before .before .before .before .before .before .before .before .before .before .args .n) (c .before .before .before .before .before .before .before .before .before .before .loop .universe) (c .before .before .before .before .before .before .before .before .before .before .loop .count) (c .before .before .before .before .before .before .before .before .before .before .loop .i) (c .before .before .before .before .before .before .before .before .before .before .loop .inv .2) (c .before .before .before .before .before .before .before .before .before .before .before .before .before .before .pre .3 .arity) (c .before .before .before .before .before .before .before .before .before .loop-test .taken) (within-item _ _ (c .before .before .before .before .before .before .before .before .before .before .loop .i) (c .before .before .before .before .before .before .before .before .before .before .before .before .before .before .pre .3) .len) (sym (c .before .enum-told .given .1) ∙ c .before .before .before .before .before .enter-again .ensures .0 ∙ rw (c .before .before .before .before .before .before .element-word .ensures, c .before .before .before .before .before .before .before .before .item-at .ensures)))
 
 enum-known-m : tie.Need-enum-known-m Inv-loop μ-loop
 enum-known-m c = search needs
@@ -49,7 +49,7 @@ loop-less : tie.Need-loop-less Inv-loop μ-loop
 loop-less c = search needs
 
 loop-again : tie.Need-loop-again Inv-loop μ-loop
-loop-again c = let g = entering-next (now (c .before .before .before .before .before .before .before .before .before .before .before .before .before .before .args .facts)) (now (c .before .before .before .before .before .before .before .before .before .before .before .before .before .before .args .query)) (c .before .before .before .before .before .before .before .before .before .before .before .before .before .before .args .a) (c .before .before .before .before .before .before .before .before .before .before .before .before .before .before .args .f) (now (c .before .before .before .before .before .before .before .before .before .before .before .before .before .before .args .universe)) (c .before .before .before .before .before .before .before .before .before .before .before .before .before .before .args .n) (c .before .before .before .before .before .before .before .before .before .before .loop .universe) (c .before .before .before .before .before .before .before .before .before .before .loop .count) (c .before .before .before .before .before .before .before .before .before .before .loop .i) (c .before .before .before .before .before .before .before .before .before .before .loop .inv .2) (c .before .before .before .before .before .before .before .before .before .before .before .before .before .before .pre .3 .arity) (c .before .before .before .before .before .before .before .before .before .loop-test .taken) (within-item _ _ (c .before .before .before .before .before .before .before .before .before .before .loop .i) (c .before .before .before .before .before .before .before .before .before .before .before .before .before .before .pre .3) .len) _ _ (c .before .before .before .before .before .enter-part .ensures .1 ∙ rw (c .before .before .before .before .before .before .element-word .ensures, c .before .before .before .before .before .before .before .before .item-at .ensures)) (sym (c .before .m .given .1) ∙ c .before .before .before .before .before .enter-part .ensures .0 ∙ rw (c .before .before .before .before .before .before .element-word .ensures, c .before .before .before .before .before .before .before .before .item-at .ensures)) in (held-length (g .held), omega arith, g)
+loop-again c = let g = entering-next (now (c .before .before .before .before .before .before .before .before .before .before .before .before .before .before .args .facts)) (now (c .before .before .before .before .before .before .before .before .before .before .before .before .before .before .args .query)) (c .before .before .before .before .before .before .before .before .before .before .before .before .before .before .args .a) (c .before .before .before .before .before .before .before .before .before .before .before .before .before .before .args .f) (now (c .before .before .before .before .before .before .before .before .before .before .before .before .before .before .args .universe)) (c .before .before .before .before .before .before .before .before .before .before .before .before .before .before .args .n) (c .before .before .before .before .before .before .before .before .before .before .loop .universe) (c .before .before .before .before .before .before .before .before .before .before .loop .count) (c .before .before .before .before .before .before .before .before .before .before .loop .i) (c .before .before .before .before .before .before .before .before .before .before .loop .inv .2) (c .before .before .before .before .before .before .before .before .before .before .before .before .before .before .pre .3 .arity) (c .before .before .before .before .before .before .before .before .before .loop-test .taken) (within-item _ _ (c .before .before .before .before .before .before .before .before .before .before .loop .i) (c .before .before .before .before .before .before .before .before .before .before .before .before .before .before .pre .3) .len) _ _ (c .before .before .before .before .before .enter-again .ensures .1 ∙ rw (c .before .before .before .before .before .before .element-word .ensures, c .before .before .before .before .before .before .before .before .item-at .ensures)) (sym (c .before .m .given .1) ∙ c .before .before .before .before .before .enter-again .ensures .0 ∙ rw (c .before .before .before .before .before .before .element-word .ensures, c .before .before .before .before .before .before .before .before .item-at .ensures)) in (held-length (g .held), omega arith, g)
 
 same-length-2 : tie.Need-same-length-2 Inv-loop μ-loop
 same-length-2 c = search needs
@@ -66,7 +66,7 @@ use-elements-spec =
     loop-holds
     item-at-requires
     element-word-requires
-    enter-part-requires
+    enter-again-requires
     enum-told
     add-t17
     same-length
