@@ -23,7 +23,7 @@ use Rattle.definition.proofs.PlaceLaws.{EachElement, no-element, EachFact, no-f
 use Rattle.definition.proofs.UniverseLaws.{Ascending}
 use Rattle.parts.specs.Packed.{tag-of, part-of, text-of}
 use Rattle.parts.specs.Entries.{enter-all, texts-of}
-use Rattle.parts.proofs.HeldLaws.{length-texts, held-take}
+use Rattle.parts.proofs.HeldLaws.{length-texts, held-take, enter-all-ascending}
 use Rattle.facts.specs.declared.Counts.{Counts}
 use Rattle.facts.specs.declared.FactsRead.the-variants.{Given}
 use Rattle.facts.specs.Words.{element-word, entered, noted}
@@ -36,7 +36,7 @@ use Rattle.lines.proofs.LineLaws.{Shows}
 use Rattle.universe.specs.Strings.{string-part, string-element, left-tokens, with-strings, WithStrings}
 use Rattle.universe.proofs.Lists.{some-append, or-none}
 use Rattle.universe.proofs.LeftStrings.{left-strings-shown, left-strings-within}
-use Rattle.universe.proofs.FirstParts.{part-in, quotes, Small, enter-all-ascending, enter-all-small, part-enter-all, part-at, quotes-enter-all, quotes-at}
+use Rattle.universe.proofs.FirstParts.{part-in, quotes, Small, enter-all-small, part-enter-all, part-at, quotes-enter-all, quotes-at}
 use Rattle.universe.proofs.ElementParts.{Short, elements-in, all-short, words-in, words-small, first-in-facts, quoted-in-facts, strings-small, quoted-by-none, first-in-query}
 
 some-gather : (p : Element → Bool) (fs : List Fact) → some-of p (elements-in fs) ≡ some-of (λ f. some-of p (f .elements)) fs

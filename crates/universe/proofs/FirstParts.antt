@@ -12,11 +12,11 @@ use Rattle.definition.specs.Text.{if_then_else_, Text, same, earlier, member, s
 use Rattle.definition.specs.Calls.{Part, part-text}
 use Rattle.definition.proofs.BoolLaws.{is-true}
 use Rattle.definition.proofs.MeaningLaws.{same-eq, same-refl}
-use Rattle.definition.proofs.UniverseLaws.{Ascending, insert-ascending, earlier-not-same, earlier-trans}
+use Rattle.definition.proofs.UniverseLaws.{Ascending, earlier-not-same, earlier-trans}
 use Rattle.parts.specs.Packed.{tag-of, part-of, text-of}
 use Rattle.parts.specs.Entries.{quoted-too, enter, enter-all, texts-of}
 use Rattle.parts.proofs.PackLaws.{quoted-part}
-use Rattle.parts.proofs.HeldLaws.{texts-enter}
+use Rattle.parts.proofs.HeldLaws.{enter-ascending}
 use Rattle.universe.proofs.Lists.{or-none}
 
 -- a text before the first of an ascending list is not in it
@@ -81,9 +81,6 @@ module _ (facts query : Text) where
       go true h ih = let z : _≡_ {A = ℕ} 0 1 = cc in absurd (omega arith)
       go false h ih = ih h
 
-  pub enter-ascending : (v : ℕ) (ws : List ℕ) → Ascending (texts-of facts query ws) → Ascending (texts-of facts query (enter facts query v ws))
-  enter-ascending v ws a = subst Ascending (sym (texts-enter facts query v ws)) (insert-ascending (text-of facts query v) (texts-of facts query ws) a)
-
   quoted-text : (v w : ℕ) → text-of facts query (quoted-too v w) ≡ text-of facts query w
   unfolding text-of
   quoted-text v w = ap (part-text facts query) (quoted-part v w)
@@ -138,7 +135,7 @@ module _ (facts query : Text) where
   pub part-enter-all : (t : Text) (vs ws : List ℕ) (within : Part) → Ascending (texts-of facts query ws) → part-in t (enter-all facts query vs ws) within ≡ part-in t ws (part-in t vs within)
   unfolding part-in enter-all
   part-enter-all t [] ws within a = refl
-  part-enter-all t (v ∷ vs) ws within a = part-enter-all t vs (enter facts query v ws) within (enter-ascending v ws a) ∙ part-enter t v ws (part-in t vs within) a
+  part-enter-all t (v ∷ vs) ws within a = part-enter-all t vs (enter facts query v ws) within (enter-ascending facts query v ws a) ∙ part-enter t v ws (part-in t vs within) a
 
   -- and is that of its place
   pub part-at : (ws : List ℕ) (n : ℕ) (within : Part) → Ascending (texts-of facts query ws) → n < length ws → part-in (text-of facts query (getD ws n 0)) ws within ≡ part-of (getD ws n 0)
@@ -225,8 +222,3 @@ module _ (facts query : Text) where
       ap₂ (λ (b c : Bool). (b && eqb (tag-of w) 1) || c) (same-self (text-of facts query w)) (quotes-none (text-of facts query w) ws (not-behind (text-of facts query w) (text-of facts query w) (texts-of facts query ws) (same-refl (text-of facts query w)) a))
       ∙ or-none (eqb (tag-of w) 1)
   quotes-at (w ∷ ws) (suc n) a h = rw (later-same w ws n a (omega arith)) (quotes-at ws n (a .1) (omega arith))
-
-  pub enter-all-ascending : (vs ws : List ℕ) → Ascending (texts-of facts query ws) → Ascending (texts-of facts query (enter-all facts query vs ws))
-  unfolding enter-all
-  enter-all-ascending [] ws a = a
-  enter-all-ascending (v ∷ vs) ws a = enter-all-ascending vs (enter facts query v ws) (enter-ascending v ws a)
