@@ -3,6 +3,7 @@ ghost use mathlib.Core.Path.{_≡_};
 ghost use Rattle.parts_test.specs.Counts.{count-of};
 use check::expect;
 use parts::Entered;
+use parts::enter_again;
 use parts::enter_part;
 use parts::index_of;
 use parts::packed;
@@ -68,6 +69,23 @@ fn quoted() {
     expect(words[1] == 21);
 }
 
+// The same where the text is looked for by halves, and where it is not there.
+fn again() {
+    let facts: &[u8] = b"R C10 \"C2\"";
+    let query: &[u8] = b"C2 C1";
+    let mut words = [1048usize, 20, 9];
+    expect(count(enter_again(facts, query, &mut words, 2, 3601)) == 2);
+    expect(words[1] == 21);
+}
+
+fn new() {
+    let facts: &[u8] = b"R C10 \"C2\"";
+    let query: &[u8] = b"C2 C1";
+    let mut words = [1048usize, 20, 9];
+    expect(count(enter_again(facts, query, &mut words, 2, 1556)) == 3);
+    expect(words[0] == 1556);
+}
+
 // No room: the words stay.
 fn full() {
     let facts: &[u8] = b"R C10 \"C2\"";
@@ -84,5 +102,7 @@ fn main() {
     found();
     sorted();
     quoted();
+    again();
+    new();
     full();
 }
