@@ -1,0 +1,48 @@
+-- The check's answer, as the definition has it.
+use Prim.Native.Nat.{ℕ, suc}
+use mathlib.Core.Path.{_≡_, refl, sym, ap, _∙_}
+use mathlib.Core.Bool.{true}
+use mathlib.Core.List.{List, [], _∷_, map}
+use lib.ListN.{length, replicate}
+use Rattle.definition.specs.Text.{Text}
+use Rattle.definition.specs.Limits.{document-01}
+use Rattle.definition.specs.Answer.{Answer, ok, refused, number, place}
+use Rattle.definition.specs.Facts.{Relation}
+use Rattle.definition.specs.Syntax.{end}
+use Rattle.definition.specs.Accept.{Accepted, accept, elements, words-needed}
+use Rattle.definition.specs.Calls.{records-from, records, no-record, check, CheckMeets}
+use Rattle.definition.specs.declared.Refusal.{Refusal}
+use Rattle.definition.specs.declared.Record.{Record}
+use Rattle.definition.specs.declared.Figures.{Figures}
+use Rattle.definition.specs.declared.Verdict.the-variants as Verdict
+use Rattle.parts.specs.Entries.{texts-of}
+use Rattle.facts.specs.Words.{relations-of}
+use Rattle.layout.specs.Sizes.{LaidOut}
+
+-- texts of no relation and no element
+abbrev pub nothing : Accepted
+nothing = record { universe = []; relations = []; variables = λ t. true; facts = []; program = end }
+
+no-records : records document-01 nothing ≡ replicate 16 no-record
+unfolding records records-from
+no-records = refl
+
+module _ (facts query : Text) where
+  pub check-refused : (q : Refusal) (rs : List Record) → rs ≡ records document-01 nothing → accept document-01 facts query ≡ refused (number q) (place q)
+      → CheckMeets document-01 facts query (record { verdict = Verdict.Refused q; records = rs })
+  unfolding check
+  check-refused q rs r e = record { verdict = rw e refl; records = rw e (r ∙ no-records) }
+
+  length-relations : (xs : List ℕ) → length (relations-of facts query xs) ≡ length xs
+  length-relations [] = refl
+  length-relations (x ∷ xs) = ap suc (length-relations xs)
+
+  pub check-accepted : (w : Accepted) (relations firsts : List ℕ) (u scratch words : ℕ) (rs : List Record) → accept document-01 facts query ≡ ok w → relations-of facts query relations ≡ w .relations
+      → elements w ≡ u → LaidOut w firsts scratch words → rs ≡ records document-01 w
+      → CheckMeets document-01 facts query (record { verdict = Verdict.Accepted (record { universe = u; words = words; relations = length relations }); records = rs })
+  unfolding check
+  check-accepted w relations firsts u scratch words rs e f size l r =
+      record {
+        verdict = rw (e, size, l .needed, ← f, length-relations relations) refl;
+        records = rw e r;
+      }

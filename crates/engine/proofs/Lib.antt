@@ -1,0 +1,3 @@
+-- What the check answers, and what the step loop begins with.
+pub mod Checks
+pub mod Begins

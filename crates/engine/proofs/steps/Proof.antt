@@ -1,0 +1,35 @@
+use mathlib.Core.Path.{refl}
+use borrow.Author.Needs.{needs}
+use denote.Ref.{now}
+use Rattle.definition.specs.Limits.{document-01}
+use Rattle.lines.specs.Lines.{texts}
+use Rattle.running.proofs.Runs.{run-met}
+use Rattle.engine.proofs.steps.Statement.{statement}
+use Rattle.engine.proofs.steps.Tie as tie
+use Rattle.engine.proofs.steps.Reads as reads
+use Rattle.engine.proofs.steps.Lts as lts
+use Rattle.machine.proofs.go.Reads as go-reads
+
+-- src/lib.rt:39:9
+go-requires : tie.Need-go-requires
+go-requires c κs = search needs
+
+-- src/lib.rt:16:1
+same-length : tie.Need-same-length
+same-length c = search needs
+
+-- src/lib.rt:16:1
+same-length-2 : tie.Need-same-length-2
+same-length-2 c = search needs
+
+-- src/lib.rt:16:1
+returns : tie.Need-returns
+returns c =
+    let s = c .before .before .before .before .before .before .before .before .before .before .before .before .before .before .before .before .before in
+    λ w store₀ b.
+    run-met w (now (s .args .firsts)) (s .args .scratch) (b .laid) (texts (now (s .args .facts)) (now (s .args .query)) (now (s .args .places))) (b .shows) (now (s .args .low)) (b .code)
+    (s .args .u) (b .size) store₀ (b .long) (now (s .args .output)) document-01 (now (s .args .facts)) (now (s .args .query)) (b .accepted) (now (s .args .store)) _ _ _ (b .image)
+    (record { sets = refl; cursors = refl; variables = refl }) (s .args .budget) _ _ (c .before .before .before .before .go .ensures)
+
+pub steps-spec : {M : Type 1} → statement M
+steps-spec = tie.close (tie.spec go-requires same-length same-length-2 returns)

@@ -1,0 +1,2 @@
+-- What a run of accepted texts begins with.
+pub mod Begun

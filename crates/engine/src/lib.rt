@@ -1,0 +1,299 @@
+// The calls of the calculator: check and run. None of them keeps anything: all work arrays are locals.
+ghost use Prim.Native.Nat.{ℕ, _≤_, _<_};
+ghost use mathlib.Core.Path.{_≡_};
+ghost use mathlib.Core.List.{List};
+ghost use lib.ListN.{length, take};
+ghost use Rattle.definition.specs.Limits.{document-01, FACT-BYTES};
+ghost use Rattle.definition.specs.Answer.{ok, refused, number, place};
+ghost use Rattle.definition.specs.Accept.{Accepted, accept, elements};
+ghost use Rattle.definition.specs.Calls.{CheckMeets, RunMeets};
+ghost use Rattle.facts.specs.Words.{relations-of};
+ghost use Rattle.free.specs.Words.{Small};
+ghost use Rattle.coding.specs.Pass.{Passed};
+ghost use Rattle.layout.specs.Sizes.{LaidOut};
+ghost use Rattle.acceptance.specs.Reading.{Reading};
+ghost use Rattle.engine.specs.Begun.{Begun, no-depths};
+use acceptance::Texts;
+use coding::lower;
+use definition::Checked;
+use definition::Figures;
+use definition::Ran;
+use definition::Refusal;
+use definition::Stopped;
+use definition::Verdict;
+use layout::Room;
+use layout::lay;
+use layout::records;
+use loading::load_facts;
+use machine::Machine;
+use machine::go;
+
+// The answer of the check where the texts are refused.
+fn not_passed<'a>(facts: &'a [u8], query: &'a [u8], q: Refusal) -> Checked
+    ensures { λ r. ⌜ (accept document-01 (now (facts .entry)) (now (query .entry)) ≡ refused (number q) (place q) → CheckMeets document-01 (now (facts .entry)) (now (query .entry)) r) ⌝ }
+{
+    let none = [0usize; 1];
+    Checked {
+        verdict: Verdict::Refused(q),
+        records: records(facts, query, &none[..0], 0),
+    }
+}
+
+// The answer of the check where the texts are accepted, with some relations and u elements.
+fn passed<'a>(facts: &'a [u8], query: &'a [u8], relations: &[usize], u: u8) -> Checked
+    requires { ⌜ (length (now relations) ≤ 16) × (u ≤ 64) ⌝ }
+    ensures { λ r. ⌜ ((w : Accepted) → accept document-01 (now (facts .entry)) (now (query .entry)) ≡ ok w → relations-of (now (facts .entry)) (now (query .entry)) (now (relations .entry)) ≡ w .relations → elements w ≡ u → CheckMeets document-01 (now (facts .entry)) (now (query .entry)) r) ⌝ }
+{
+    let mut firsts = [0u64; 32];
+    let l = lay(relations, u, &mut firsts);
+    let f = Figures {
+        universe: u as usize,
+        words: l.words,
+        relations: relations.len(),
+    };
+    Checked {
+        verdict: Verdict::Accepted(f),
+        records: records(facts, query, relations, u),
+    }
+}
+
+// Whether the texts are accepted, and what their tables need.
+pub fn check<'a>(facts: &'a [u8], query: &'a [u8]) -> Checked
+    ensures { λ r. ⌜ CheckMeets document-01 (now (facts .entry)) (now (query .entry)) r ⌝ }
+{
+    let mut tokens = [0u64; 2048];
+    let mut words = [0u64; 2048];
+    let mut ids = [0u64; 2048];
+    let mut known = [0u64; 2064];
+    let mut fr = [0u64; 2048];
+    let mut relations = [0usize; 16];
+    let mut places = [0usize; 64];
+    match acceptance::accept(
+        facts,
+        query,
+        &mut tokens,
+        &mut words,
+        &mut ids,
+        &mut known,
+        &mut fr,
+        &mut relations,
+        &mut places,
+    ) {
+        Texts::Refused(q) => not_passed(facts, query, q),
+        Texts::Accepted(s) => passed(facts, query, &relations[..s.relations], s.elements as u8),
+    }
+}
+
+// The step loop from the start, over lowered words and loaded tables.
+fn steps<'a>(
+    facts: &'a [u8],
+    query: &'a [u8],
+    low: &[u64],
+    firsts: &[u64],
+    places: &[usize],
+    u: u8,
+    scratch: usize,
+    budget: u32,
+    store: &mut [u64],
+    output: &mut [u8],
+) -> Ran
+    requires { ⌜ u < 65 ⌝ }
+    ensures { λ r. ⌜ ((w : Accepted) (store₀ : List ℕ) → Begun (now (facts .entry)) (now (query .entry)) (now (low .entry)) (now (firsts .entry)) (now (places .entry)) u scratch store₀ (now (store .entry)) w → RunMeets document-01 (now (facts .entry)) (now (query .entry)) budget store₀ (now (output .entry)) r (now (store .exit)) (now (output .exit))) ⌝ }
+{
+    let mut sets = [0u64; 32];
+    let mut cursors = [0u8; 32];
+    let mut vars = [0u8; 32];
+    let m = Machine {
+        pc: 0,
+        steps: 0,
+        used: 0,
+    };
+    let r = go(
+        low,
+        firsts,
+        u,
+        scratch,
+        facts,
+        query,
+        places,
+        store,
+        output,
+        &mut sets,
+        &mut cursors,
+        &mut vars,
+        m,
+        budget,
+    );
+    let ending = r.ending;
+    Ran::Ended(Stopped {
+        ending,
+        steps: r.machine.steps,
+        written: r.machine.used,
+    })
+}
+
+// The words of the program, lowered.
+fn translate<'a>(
+    facts: &'a [u8],
+    query: &'a [u8],
+    tokens: &[u64],
+    words: &[u64],
+    ids: &[u64],
+    known: &[u64],
+    places: &[usize],
+    u: u8,
+    low: &mut [u64],
+)
+    requires { ⌜ (length (now tokens) ≤ 2048) × (length (now words) ≤ 2048) × (length (now low) ≡ 2048) ⌝ }
+    ensures { λ _. ⌜ Passed (now (facts .entry)) (now (query .entry)) (now (places .entry)) (now (tokens .entry)) (now (ids .entry)) (now (known .entry)) (now (words .entry)) (now (low .exit)) u no-depths ⌝ }
+{
+    let mut depths = [0u64; 2064];
+    let mut codes = [0u64; 2048];
+    let mut fr = [0u64; 2048];
+    lower(
+        facts,
+        query,
+        places,
+        tokens,
+        words,
+        ids,
+        known,
+        &mut depths,
+        &mut codes,
+        &mut fr,
+        low,
+        u,
+    );
+}
+
+// The run of accepted texts, whose tables have their places in the store: the words lowered, the facts loaded, then step by step.
+fn from_facts<'a>(
+    facts: &'a [u8],
+    query: &'a [u8],
+    tokens: &[u64],
+    words: &[u64],
+    ids: &[u64],
+    known: &[u64],
+    relations: &[usize],
+    places: &[usize],
+    firsts: &[u64],
+    room: Room,
+    budget: u32,
+    store: &mut [u64],
+    output: &mut [u8],
+) -> Ran
+    requires { ⌜ (length (now tokens) ≤ 2048) × (length (now words) ≤ 2048) × (length (now places) ≤ 64) ⌝ }
+    requires { ⌜ (room .words ≤ length (now store)) × (length (now facts) ≤ FACT-BYTES) ⌝ }
+    ensures { λ r. ⌜ ((w : Accepted) → Reading (now (facts .entry)) (now (query .entry)) (now (tokens .entry)) (now (words .entry)) (now (ids .entry)) (now (known .entry)) (now (relations .entry)) (now (places .entry)) w → LaidOut w (now (firsts .entry)) (room .scratch) (room .words) → RunMeets document-01 (now (facts .entry)) (now (query .entry)) budget (now (store .entry)) (now (output .entry)) r (now (store .exit)) (now (output .exit))) ⌝ }
+{
+    let u = places.len() as u8;
+    let mut low = [0u64; 2048];
+    translate(facts, query, tokens, words, ids, known, places, u, &mut low);
+    load_facts(
+        facts,
+        query,
+        relations,
+        places,
+        firsts,
+        u,
+        room.words,
+        store,
+    );
+    steps(
+        facts,
+        query,
+        &low[..words.len()],
+        firsts,
+        places,
+        u,
+        room.scratch,
+        budget,
+        store,
+        output,
+    )
+}
+
+// Row 14, and the run of accepted texts.
+fn with_texts<'a>(
+    facts: &'a [u8],
+    query: &'a [u8],
+    tokens: &[u64],
+    words: &[u64],
+    ids: &[u64],
+    known: &[u64],
+    relations: &[usize],
+    places: &[usize],
+    budget: u32,
+    store: &mut [u64],
+    output: &mut [u8],
+) -> Ran
+    requires { ⌜ (length (now tokens) ≤ 2048) × (length (now words) ≤ 2048) ⌝ }
+    requires { ⌜ (length (now relations) ≤ 16) × (length (now places) ≤ 64) × (length (now facts) ≤ FACT-BYTES) ⌝ }
+    ensures { λ r. ⌜ ((w : Accepted) → Reading (now (facts .entry)) (now (query .entry)) (now (tokens .entry)) (now (words .entry)) (now (ids .entry)) (now (known .entry)) (now (relations .entry)) (now (places .entry)) w → RunMeets document-01 (now (facts .entry)) (now (query .entry)) budget (now (store .entry)) (now (output .entry)) r (now (store .exit)) (now (output .exit))) ⌝ }
+{
+    let mut firsts = [0u64; 32];
+    let room = lay(relations, places.len() as u8, &mut firsts);
+    if store.len() < room.words {
+        return Ran::Refused(Refusal::StoreShort(room.words));
+    }
+    from_facts(
+        facts,
+        query,
+        tokens,
+        words,
+        ids,
+        known,
+        relations,
+        places,
+        &firsts,
+        room,
+        budget,
+        store,
+        output,
+    )
+}
+
+// Runs the query over the facts in the lent store and output, within the budget of steps.
+pub fn run<'a>(
+    facts: &'a [u8],
+    query: &'a [u8],
+    budget: u32,
+    store: &mut [u64],
+    output: &mut [u8],
+) -> Ran
+    ensures { λ r. ⌜ RunMeets document-01 (now (facts .entry)) (now (query .entry)) budget (now (store .entry)) (now (output .entry)) r (now (store .exit)) (now (output .exit)) ⌝ }
+{
+    let mut tokens = [0u64; 2048];
+    let mut words = [0u64; 2048];
+    let mut ids = [0u64; 2048];
+    let mut known = [0u64; 2064];
+    let mut fr = [0u64; 2048];
+    let mut relations = [0usize; 16];
+    let mut places = [0usize; 64];
+    match acceptance::accept(
+        facts,
+        query,
+        &mut tokens,
+        &mut words,
+        &mut ids,
+        &mut known,
+        &mut fr,
+        &mut relations,
+        &mut places,
+    ) {
+        Texts::Refused(q) => Ran::Refused(q),
+        Texts::Accepted(s) => with_texts(
+            facts,
+            query,
+            &tokens[..s.tokens],
+            &words[..s.words],
+            &ids,
+            &known,
+            &relations[..s.relations],
+            &places[..s.elements],
+            budget,
+            store,
+            output,
+        ),
+    }
+}
