@@ -1,0 +1,2 @@
+-- Where a part of one of two texts begins.
+pub mod Addresses
