@@ -39,7 +39,7 @@ fn part_at<'a>(facts: &'a [u8], query: &'a [u8], w: usize) -> &'a [u8]
 }
 
 // The word of element n; where there is none, that of the empty part at the query's start.
-fn word_of<'a>(facts: &'a [u8], query: &'a [u8], n: usize) -> usize
+pub fn word_of<'a>(facts: &'a [u8], query: &'a [u8], n: usize) -> usize
     ensures part { λ r. ⌜ part-of r ≡ Calls.element document-01 (now (facts .entry)) (now (query .entry)) n ⌝ }
     ensures begins { λ r. ⌜ Begins (now (facts .entry)) (now (query .entry)) (part-of r) ⌝ }
 {

@@ -1,0 +1,59 @@
+-- The answers of the calls as structs of numbers: `refusal` is 0 where the call succeeds, and fields that do not apply are 0.
+use Prim.Native.Nat.{ℕ}
+use mathlib.Core.Path.{_≡_}
+use mathlib.Core.List.{List, map}
+use Rattle.definition.specs.Text.{Text}
+use Rattle.definition.specs.Limits.{document-01}
+use Rattle.definition.specs.Answer.{number, place, ending-number}
+use Rattle.definition.specs.Calls.{Part, CheckMeets, RunMeets, ChainMeets}
+use Rattle.definition.specs.declared.Record.{Record}
+use Rattle.definition.specs.declared.Checked.{Checked}
+use Rattle.definition.specs.declared.Verdict.{Verdict}
+use Rattle.definition.specs.declared.Verdict.the-variants as Verdict
+use Rattle.definition.specs.declared.Ran.{Ran}
+use Rattle.definition.specs.declared.Ran.the-variants as Ran
+use Rattle.definition.specs.declared.Chained.{Chained}
+use Rattle.definition.specs.declared.Chained.the-variants as Chained
+use Rattle.relcalc_c.specs.declared.CRecord.{CRecord}
+use Rattle.relcalc_c.specs.declared.CChecked.{CChecked}
+use Rattle.relcalc_c.specs.declared.CRan.{CRan}
+use Rattle.relcalc_c.specs.declared.CPart.{CPart}
+use Rattle.relcalc_c.specs.declared.CChained.{CChained}
+
+abbrev pub record-fields : Record → CRecord
+record-fields r = record { text = r .text; offset = r .offset; length = r .length; arity = r .arity; first = r .first }
+
+abbrev pub verdict-fields : Verdict → List CRecord → CChecked
+verdict-fields (Verdict.Accepted f) rs = record { refusal = 0; place = 0; universe = f .universe; words = f .words; relations = f .relations; records = rs }
+verdict-fields (Verdict.Refused q) rs = record { refusal = number q; place = place q; universe = 0; words = 0; relations = 0; records = rs }
+
+abbrev pub checked-fields : Checked → CChecked
+checked-fields c = verdict-fields (c .verdict) (map record-fields (c .records))
+
+abbrev pub ran-fields : Ran → CRan
+ran-fields (Ran.Ended s) = record { refusal = 0; place = 0; ending = ending-number (s .ending); steps = s .steps; written = s .written }
+ran-fields (Ran.Refused q) = record { refusal = number q; place = place q; ending = 0; steps = 0; written = 0 }
+
+abbrev pub chained-fields : Chained → CChained
+chained-fields (Chained.Chain n) = record { refusal = 0; place = 0; count = n }
+chained-fields (Chained.Refused q) = record { refusal = number q; place = place q; count = 0 }
+
+abbrev pub part-fields : Part → CPart
+part-fields p = record { text = p .text; offset = p .offset; length = p .length }
+
+-- Each call answers the fields of an answer that meets its definition.
+
+pub record CheckAnswers (facts query : Text) (r : CChecked) : Type 0 where
+  pub answer : Checked
+  pub meets : CheckMeets document-01 facts query answer
+  pub fields : r ≡ checked-fields answer
+
+pub record RunAnswers (facts query : Text) (budget : ℕ) (store : List ℕ) (output : Text) (r : CRan) (store′ : List ℕ) (output′ : Text) : Type 0 where
+  pub answer : Ran
+  pub meets : RunMeets document-01 facts query budget store output answer store′ output′
+  pub fields : r ≡ ran-fields answer
+
+pub record ChainAnswers (facts name first second : Text) (buffer : List ℕ) (r : CChained) (buffer′ : List ℕ) : Type 0 where
+  pub answer : Chained
+  pub meets : ChainMeets document-01 facts name first second buffer answer buffer′
+  pub fields : r ≡ chained-fields answer
