@@ -178,17 +178,17 @@ fn from_facts<'a>(
     places: &[usize],
     firsts: &[u64],
     room: Room,
+    low: &mut [u64],
     budget: u32,
     store: &mut [u64],
     output: &mut [u8],
 ) -> Ran
-    requires { ⌜ (length (now tokens) ≤ 2048) × (length (now words) ≤ 2048) × (length (now places) ≤ 64) ⌝ }
+    requires { ⌜ (length (now tokens) ≤ 2048) × (length (now words) ≤ 2048) × (length (now places) ≤ 64) × (length (now low) ≡ 2048) ⌝ }
     requires { ⌜ (room .words ≤ length (now store)) × (length (now facts) ≤ FACT-BYTES) ⌝ }
     ensures { λ r. ⌜ ((w : Accepted) → Reading (now (facts .entry)) (now (query .entry)) (now (tokens .entry)) (now (words .entry)) (now (ids .entry)) (now (known .entry)) (now (relations .entry)) (now (places .entry)) w → LaidOut w (now (firsts .entry)) (room .scratch) (room .words) → RunMeets document-01 (now (facts .entry)) (now (query .entry)) budget (now (store .entry)) (now (output .entry)) r (now (store .exit)) (now (output .exit))) ⌝ }
 {
     let u = places.len() as u8;
-    let mut low = [0u64; 2048];
-    translate(facts, query, tokens, words, ids, known, places, u, &mut low);
+    translate(facts, query, tokens, words, ids, known, places, u, low);
     load_facts(
         facts,
         query,
@@ -223,11 +223,12 @@ fn with_texts<'a>(
     known: &[u64],
     relations: &[usize],
     places: &[usize],
+    low: &mut [u64],
     budget: u32,
     store: &mut [u64],
     output: &mut [u8],
 ) -> Ran
-    requires { ⌜ (length (now tokens) ≤ 2048) × (length (now words) ≤ 2048) ⌝ }
+    requires { ⌜ (length (now tokens) ≤ 2048) × (length (now words) ≤ 2048) × (length (now low) ≡ 2048) ⌝ }
     requires { ⌜ (length (now relations) ≤ 16) × (length (now places) ≤ 64) × (length (now facts) ≤ FACT-BYTES) ⌝ }
     ensures { λ r. ⌜ ((w : Accepted) → Reading (now (facts .entry)) (now (query .entry)) (now (tokens .entry)) (now (words .entry)) (now (ids .entry)) (now (known .entry)) (now (relations .entry)) (now (places .entry)) w → RunMeets document-01 (now (facts .entry)) (now (query .entry)) budget (now (store .entry)) (now (output .entry)) r (now (store .exit)) (now (output .exit))) ⌝ }
 {
@@ -247,13 +248,15 @@ fn with_texts<'a>(
         places,
         &firsts,
         room,
+        low,
         budget,
         store,
         output,
     )
 }
 
-// Runs the query over the facts in the lent store and output, within the budget of steps.
+// Runs the query over the facts in the lent store and output, within the budget of steps. The array that the check of free attributes
+// is done with takes the lowered words, to spare stack.
 pub fn run<'a>(
     facts: &'a [u8],
     query: &'a [u8],
@@ -291,6 +294,7 @@ pub fn run<'a>(
             &known,
             &relations[..s.relations],
             &places[..s.elements],
+            &mut fr,
             budget,
             store,
             output,

@@ -12,13 +12,9 @@ use Rattle.engine.proofs.steps.Reads as steps-reads
 use Rattle.engine.proofs.translate.Reads as translate-reads
 use Rattle.loading.proofs.load_facts.Reads as load-facts-reads
 
--- src/lib.rt:189:13
+-- src/lib.rt:190:13
 cast-u : tie.Need-cast-u
 cast-u c = search needs
-
--- src/lib.rt:191:67
-slice-aggregate-translate : tie.Need-slice-aggregate-translate
-slice-aggregate-translate c = search needs
 
 -- src/lib.rt:191:5
 translate-requires : tie.Need-translate-requires
@@ -29,8 +25,8 @@ load-facts-requires : tie.Need-load-facts-requires
 load-facts-requires c κs = search needs
 
 -- src/lib.rt:205:9
-array-share-prefix-low : tie.Need-array-share-prefix-low
-array-share-prefix-low c = search needs
+slice-reshare-prefix-steps : tie.Need-slice-reshare-prefix-steps
+slice-reshare-prefix-steps c = search needs
 
 -- src/lib.rt:205:9
 slice-aggregate-steps : tie.Need-slice-aggregate-steps
@@ -49,15 +45,19 @@ same-length-2 : tie.Need-same-length-2
 same-length-2 c = search needs
 
 -- src/lib.rt:170:1
+same-length-3 : tie.Need-same-length-3
+same-length-3 c = search needs
+
+-- src/lib.rt:170:1
 returns : tie.Need-returns
 returns c =
-    let s = c .before .before .before .before .before .before .before .before .before .before .before .before .before .before .before .before .before .before .before .before .before .before .before .before .before .before in
-    let low = c .before .before .before .before .before .before .before .before .before .before .before .before .before .translate in
+    let s = c .before .before .before .before .before .before .before .before .before .before .before .before .before .before .before .before .before .before .before .before .before .before .before .before .before .before .before .before in
+    let low = c .before .before .before .before .before .before .before .before .before .before .before .before .before .before .translate in
     let load = c .before .before .before .before .before .before .before .before .before .before .load-facts in
     λ w r l.
     let size = size-is (now (s .args .facts)) (now (s .args .query)) (now (s .args .tokens)) (now (s .args .words)) (now (s .args .ids)) (now (s .args .known)) (now (s .args .relations)) (now (s .args .places)) w r in
     c .before .before .before .before .steps .ensures w (now (s .args .store))
-    (begins (now (s .args .facts)) (now (s .args .query)) (now (s .args .tokens)) (now (s .args .words)) (now (s .args .ids)) (now (s .args .known)) (now (s .args .relations)) (now (s .args .places)) w r _ size _ (now (s .args .firsts)) (s .args .room .scratch) (s .args .room .words) (now (s .args .store)) _ (array-share-prefix-low (c .before .before .before .before .before .before .before .before)) (low .ensures) l (omega (arith, s .pre))
+    (begins (now (s .args .facts)) (now (s .args .query)) (now (s .args .tokens)) (now (s .args .words)) (now (s .args .ids)) (now (s .args .known)) (now (s .args .relations)) (now (s .args .places)) w r _ size _ (now (s .args .firsts)) (s .args .room .scratch) (s .args .room .words) (now (s .args .store)) _ (slice-reshare-prefix-steps (c .before .before .before .before .before .before .before .before)) (low .ensures) l (omega (arith, s .pre))
     (load .ensures .0 w (ready (now (s .args .facts)) (now (s .args .query)) (now (s .args .tokens)) (now (s .args .words)) (now (s .args .ids)) (now (s .args .known)) (now (s .args .relations)) (now (s .args .places)) w r _ size (now (s .args .firsts)) (s .args .room .scratch) (s .args .room .words) l) (l .needed)))
 
 pub from-facts-spec : {M : Type 1} → statement M
@@ -65,12 +65,12 @@ from-facts-spec =
     tie.close
     (tie.spec
     cast-u
-    slice-aggregate-translate
     translate-requires
     load-facts-requires
-    array-share-prefix-low
+    slice-reshare-prefix-steps
     slice-aggregate-steps
     steps-requires
     same-length
     same-length-2
+    same-length-3
     returns)
