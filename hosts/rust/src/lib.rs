@@ -1,0 +1,176 @@
+//! RML queries over RSF facts. `include/relcalc.h` says what each call answers; here its numbers are enums and structs.
+//!
+//! ```
+//! let facts = b"On C10 C5\nOn C5 C2\n";
+//! let query = b"Dep(x,y) := TC(On(x,y)); PRINT Dep(x,y);";
+//! let mut store = vec![0; relcalc::check(facts, query).unwrap().words];
+//! let mut output = [0; 1000];
+//! let ran = relcalc::run(facts, query, 1_000_000, &mut store, &mut output).unwrap();
+//! assert_eq!(ran.ending, relcalc::Ending::Done);
+//! assert_eq!(&output[..ran.written], b"C10 C2\nC10 C5\nC5 C2\n");
+//! ```
+pub mod c;
+mod explain;
+
+pub use explain::{explain, At, Explained};
+
+/// Words of store that are enough for every accepted pair of texts.
+pub const STORE_WORDS: usize = 70_656;
+/// Bytes that a chain needs at least, and that are enough for each.
+pub const CHAIN_BYTES: usize = 65;
+
+/// Why a call refuses, by the numbers of document 01's table.
+#[derive(Clone, Copy, Debug, PartialEq, Eq)]
+pub enum Refusal {
+    FactsTooLong = 1,
+    FactByte,
+    FactName,
+    FactElement,
+    Arity,
+    TooManyRelations,
+    TooManyElements,
+    QueryTooLong,
+    NoToken,
+    NoProgram,
+    Kind,
+    FreeAttributes,
+    TooMuch,
+    StoreShort,
+    NotInFacts,
+    BufferShort,
+    NoChain,
+}
+
+impl Refusal {
+    const ALL: [Refusal; 17] = [
+        Refusal::FactsTooLong,
+        Refusal::FactByte,
+        Refusal::FactName,
+        Refusal::FactElement,
+        Refusal::Arity,
+        Refusal::TooManyRelations,
+        Refusal::TooManyElements,
+        Refusal::QueryTooLong,
+        Refusal::NoToken,
+        Refusal::NoProgram,
+        Refusal::Kind,
+        Refusal::FreeAttributes,
+        Refusal::TooMuch,
+        Refusal::StoreShort,
+        Refusal::NotInFacts,
+        Refusal::BufferShort,
+        Refusal::NoChain,
+    ];
+
+    /// Document 01's number.
+    pub fn number(self) -> u64 {
+        self as u64
+    }
+}
+
+/// A refusal and its place: an offset in one of the texts, or the words needed.
+#[derive(Clone, Copy, Debug, PartialEq, Eq)]
+pub struct Refused {
+    pub refusal: Refusal,
+    pub place: usize,
+}
+
+fn accepted(number: u64, place: u64) -> Result<(), Refused> {
+    match number.checked_sub(1) {
+        None => Ok(()),
+        Some(i) => Err(Refused { refusal: Refusal::ALL[i as usize], place: place as usize }),
+    }
+}
+
+#[derive(Clone, Copy, Debug, PartialEq, Eq)]
+pub enum Text {
+    Facts,
+    Query,
+}
+
+/// A part of one of the two texts.
+#[derive(Clone, Copy, Debug, PartialEq, Eq)]
+pub struct Part {
+    pub text: Text,
+    pub offset: usize,
+    pub length: usize,
+}
+
+impl Part {
+    fn new(text: u64, offset: u64, length: u64) -> Part {
+        let text = if text == 0 { Text::Facts } else { Text::Query };
+        Part { text, offset: offset as usize, length: length as usize }
+    }
+
+    /// Its bytes, out of the texts that the call was lent.
+    pub fn of<'a>(&self, facts: &'a [u8], query: &'a [u8]) -> &'a [u8] {
+        let text = if self.text == Text::Facts { facts } else { query };
+        &text[self.offset..self.offset + self.length]
+    }
+}
+
+/// A relation: the first place of its name, its arity and its first word in the store.
+#[derive(Clone, Copy, Debug, PartialEq, Eq)]
+pub struct Relation {
+    pub name: Part,
+    pub arity: usize,
+    pub first: usize,
+}
+
+/// The number of elements, the words that a run needs, and the relations in store order.
+#[derive(Clone, Debug, PartialEq, Eq)]
+pub struct Checked {
+    pub universe: usize,
+    pub words: usize,
+    pub relations: Vec<Relation>,
+}
+
+#[derive(Clone, Copy, Debug, PartialEq, Eq)]
+pub enum Ending {
+    Done,
+    Spent,
+    Full,
+}
+
+#[derive(Clone, Copy, Debug, PartialEq, Eq)]
+pub struct Ran {
+    pub ending: Ending,
+    pub steps: u32,
+    pub written: usize,
+}
+
+/// Whether a run would accept the texts, and what it needs.
+pub fn check(facts: &[u8], query: &[u8]) -> Result<Checked, Refused> {
+    let a = c::check(facts, query);
+    accepted(a.refusal, a.place)?;
+    let relation = |r: &c::Record| Relation { name: Part::new(r.text, r.offset, r.length), arity: r.arity as usize, first: r.first as usize };
+    let relations = a.records[..a.relations as usize].iter().map(relation).collect();
+    Ok(Checked { universe: a.universe as usize, words: a.words as usize, relations })
+}
+
+/// Runs the query over the facts; on refusal store and output are unchanged.
+pub fn run(facts: &[u8], query: &[u8], budget: u32, store: &mut [u64], output: &mut [u8]) -> Result<Ran, Refused> {
+    let a = c::run(facts, query, budget, store, output);
+    accepted(a.refusal, a.place)?;
+    let ending = match a.ending {
+        0 => Ending::Done,
+        1 => Ending::Spent,
+        _ => Ending::Full,
+    };
+    Ok(Ran { ending, steps: a.steps as u32, written: a.written as usize })
+}
+
+/// Where the text of element n stands; none where n is not below the number of elements, or the texts are refused.
+pub fn element(facts: &[u8], query: &[u8], n: usize) -> Option<Part> {
+    let a = c::element(facts, query, n);
+    let part = Part::new(a.text, a.offset, a.length);
+    // no left-hand string stands at the query's start
+    (part != Part { text: Text::Query, offset: 0, length: 0 }).then_some(part)
+}
+
+/// Writes the numbers of a chain of facts of that name to the buffer and answers their count; on refusal the buffer is unchanged.
+pub fn chain(facts: &[u8], name: &[u8], first: &[u8], second: &[u8], buffer: &mut [u8]) -> Result<usize, Refused> {
+    let a = c::chain(facts, name, first, second, buffer);
+    accepted(a.refusal, a.place)?;
+    Ok(a.count as usize)
+}
