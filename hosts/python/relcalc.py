@@ -1,0 +1,308 @@
+"""RML queries over RSF facts, over the shared object that hosts/build makes. include/relcalc.h says what each call answers.
+
+    rc = Relcalc()
+    ran = rc.run(b"On C10 C5\\n", b"PRINT On(x,y);")
+    print(ran.ending.name, ran.steps, ran.output)
+
+A text is bytes, a string (its UTF-8 bytes; only ASCII is accepted), or None for an empty one.
+"""
+import ctypes
+import enum
+import os
+from dataclasses import dataclass
+
+STORE_WORDS = 70656  # enough for every accepted pair of texts
+CHAIN_BYTES = 65  # the least buffer for a chain, and enough for each
+BEFORE, AFTER = 50, 30  # bytes of a line that are shown before and after a place
+
+
+class Ending(enum.Enum):
+    DONE = 0
+    SPENT = 1
+    FULL = 2
+
+
+class Text(enum.Enum):
+    FACTS = 0
+    QUERY = 1
+
+
+class Refusal(enum.Enum):
+    """Why a call refuses, by the numbers of document 01's table."""
+
+    FACTS_TOO_LONG = 1
+    FACT_BYTE = 2
+    FACT_NAME = 3
+    FACT_ELEMENT = 4
+    ARITY = 5
+    TOO_MANY_RELATIONS = 6
+    TOO_MANY_ELEMENTS = 7
+    QUERY_TOO_LONG = 8
+    NO_TOKEN = 9
+    NO_PROGRAM = 10
+    KIND = 11
+    FREE_ATTRIBUTES = 12
+    TOO_MUCH = 13
+    STORE_SHORT = 14
+    NOT_IN_FACTS = 15
+    BUFFER_SHORT = 16
+    NO_CHAIN = 17
+
+
+RULES = {
+    Refusal.FACTS_TOO_LONG: "facts have at most 32,768 bytes",
+    Refusal.FACT_BYTE: "a byte of the facts is 9, 10 or 32 to 126",
+    Refusal.FACT_NAME: "a fact starts with a relation name at the line's first byte: a letter or underscore, then letters, digits, "
+    'underscores, 1 to 32 bytes, not "_" alone and not reserved',
+    Refusal.FACT_ELEMENT: "an element has at most 32 bytes, no quote inside, and a closing quote followed by a blank or the line's end "
+    "if it starts with a quote",
+    Refusal.ARITY: "a relation has 0 to 3 elements, and as many everywhere",
+    Refusal.TOO_MANY_RELATIONS: "facts and query have at most 16 relations",
+    Refusal.TOO_MANY_ELEMENTS: "facts and left-hand sides have at most 64 elements",
+    Refusal.QUERY_TOO_LONG: "a query has at most 16,384 bytes",
+    Refusal.NO_TOKEN: "a token starts here that is none, is over 32 bytes, or is a string or comment left open; or a byte is not 9, 10 "
+    "or 32 to 126",
+    Refusal.NO_PROGRAM: "the tokens up to here begin no program",
+    Refusal.KIND: "a name has one kind (relation, attribute, loop variable) throughout, its place takes that kind, and a loop variable "
+    "stands in its loop's block only and is not bound again there",
+    Refusal.FREE_ATTRIBUTES: "an assignment's left attributes are the free ones of its right side; IF and WHILE have none, FOR one, TC "
+    "and TCFAST two, a printed expression at most 3",
+    Refusal.TOO_MUCH: "a query has at most 2,048 tokens and 32 levels, a statement at most 4 attribute names and 16 closures",
+    Refusal.STORE_SHORT: "the store has at least the words needed",
+    Refusal.NOT_IN_FACTS: "the facts hold a binary relation of this name and both elements",
+    Refusal.BUFFER_SHORT: "a chain's buffer has at least 65 bytes",
+    Refusal.NO_CHAIN: "no chain exists",
+}
+
+
+class Refused(Exception):
+    """A refusal and its place: an offset in one of the texts, or the words needed."""
+
+    def __init__(self, refusal, place):
+        super().__init__(f"refused {refusal.value} at {place}: {RULES[refusal]}")
+        self.refusal = refusal
+        self.place = place
+
+
+@dataclass(frozen=True)
+class Part:
+    """A part of one of the two texts."""
+
+    text: Text
+    offset: int
+    length: int
+
+    def of(self, facts, query):
+        text = _bytes(facts if self.text is Text.FACTS else query)
+        return text[self.offset : self.offset + self.length]
+
+
+@dataclass(frozen=True)
+class Relation:
+    name: Part
+    arity: int
+    first: int
+
+
+@dataclass(frozen=True)
+class Checked:
+    universe: int
+    words: int
+    relations: list
+
+
+@dataclass(frozen=True)
+class Ran:
+    ending: Ending
+    steps: int
+    output: bytes
+    store: list
+
+
+@dataclass(frozen=True)
+class At:
+    """A place in a text: line and column from 1, what stands there, and the line around it with the caret's column."""
+
+    text: Text
+    line: int
+    column: int
+    found: bytes
+    shown: bytes
+    caret: int
+
+
+@dataclass(frozen=True)
+class Explained:
+    """Where and why texts were refused; `at` is None for 14 to 17, whose place is no place in a text."""
+
+    refused: Refused
+    at: At
+    rule: str
+
+    def __str__(self):
+        number = self.refused.refusal.value
+        if self.at is None:
+            return f"refused {number} ({self.refused.place}): {self.rule}"
+        found = f"`{_plain(self.at.found)}`" if self.at.found else "end of text"
+        head = f"{self.at.text.name.lower()}:{self.at.line}:{self.at.column}: refused {number} at {found}: {self.rule}"
+        return f"{head}\n  {_plain(self.at.shown)}\n  {' ' * self.at.caret}^"
+
+
+def _words(*names):
+    return [(n, ctypes.c_uint64) for n in names]
+
+
+class _Record(ctypes.Structure):
+    _fields_ = _words("text", "offset", "length", "arity", "first")
+
+
+class _Checked(ctypes.Structure):
+    _fields_ = _words("refusal", "place", "universe", "words", "relations") + [("records", _Record * 16)]
+
+
+class _Ran(ctypes.Structure):
+    _fields_ = _words("refusal", "place", "ending", "steps", "written")
+
+
+class _Part(ctypes.Structure):
+    _fields_ = _words("text", "offset", "length")
+
+
+class _Chained(ctypes.Structure):
+    _fields_ = _words("refusal", "place", "count")
+
+
+_TEXT = [ctypes.c_char_p, ctypes.c_size_t]
+_BUFFER = [ctypes.POINTER(ctypes.c_uint8), ctypes.c_size_t]
+
+
+def _bytes(text):
+    if text is None:
+        return b""
+    return text.encode() if isinstance(text, str) else bytes(text)
+
+
+def _lent(*texts):
+    """Pointer and length of each text: the pointer of an empty one is not null."""
+    return [x for t in texts for x in (t, len(t))]
+
+
+def _room(kind, n):
+    """An array of n and one more, so that its pointer is good for length 0 too."""
+    return (kind * (n + 1))()
+
+
+def _accept(answer):
+    if answer.refusal:
+        raise Refused(Refusal(answer.refusal), answer.place)
+
+
+class Relcalc:
+    def __init__(self, path=None):
+        """Loads the shared object at path, at $RELCALC_SO, or at target/hosts/librelcalc.so of the repository."""
+        here = os.path.dirname(os.path.abspath(__file__))
+        default = os.path.join(here, "..", "..", "target", "hosts", "librelcalc.so")
+        library = ctypes.CDLL(path or os.environ.get("RELCALC_SO") or default)
+        self._check = library.relcalc_check
+        self._check.argtypes, self._check.restype = _TEXT * 2, _Checked
+        self._run = library.relcalc_run
+        store = [ctypes.POINTER(ctypes.c_uint64), ctypes.c_size_t]
+        self._run.argtypes, self._run.restype = _TEXT * 2 + [ctypes.c_uint32] + store + _BUFFER, _Ran
+        self._element = library.relcalc_element
+        self._element.argtypes, self._element.restype = _TEXT * 2 + [ctypes.c_size_t], _Part
+        self._chain = library.relcalc_chain
+        self._chain.argtypes, self._chain.restype = _TEXT * 4 + _BUFFER, _Chained
+
+    def check(self, facts, query):
+        """Whether a run would accept the texts, and what it needs."""
+        a = self._check(*_lent(_bytes(facts), _bytes(query)))
+        _accept(a)
+        relations = [Relation(Part(Text(r.text), r.offset, r.length), r.arity, r.first) for r in a.records[: a.relations]]
+        return Checked(a.universe, a.words, relations)
+
+    def run(self, facts, query, budget=1_000_000, words=STORE_WORDS, room=32768):
+        """Runs the query over the facts with a store of so many words and room for so many bytes."""
+        if not 0 <= budget < 2**32:
+            raise ValueError("a budget has 32 bits")
+        store, output = _room(ctypes.c_uint64, words), _room(ctypes.c_uint8, room)
+        a = self._run(*_lent(_bytes(facts), _bytes(query)), budget, store, words, output, room)
+        _accept(a)
+        return Ran(Ending(a.ending), a.steps, bytes(output[: a.written]), store[:words])
+
+    def element(self, facts, query, n):
+        """The part that is the text of element n; None where there is none, or the texts are refused."""
+        if not 0 <= n < 2**64:
+            return None
+        a = self._element(*_lent(_bytes(facts), _bytes(query)), n)
+        # no left-hand string stands at the query's start
+        return None if (a.text, a.offset, a.length) == (1, 0, 0) else Part(Text(a.text), a.offset, a.length)
+
+    def chain(self, facts, name, first, second, room=CHAIN_BYTES):
+        """The element numbers of a chain of facts of that name."""
+        buffer = _room(ctypes.c_uint8, room)
+        a = self._chain(*_lent(*map(_bytes, (facts, name, first, second))), buffer, room)
+        _accept(a)
+        return buffer[: a.count]
+
+    def explain(self, refused, facts, query=b""):
+        """Where and why the texts of a call were refused."""
+        facts, query = _bytes(facts), _bytes(query)
+        which = self._text_of(refused, facts)
+        at = which and _at(refused, which, facts if which is Text.FACTS else query)
+        return Explained(refused, at, RULES[refused.refusal])
+
+    def _text_of(self, refused, facts):
+        """Which text the place is in. 5, 6 and 7 are of the facts where the facts alone have them."""
+        number = refused.refusal.value
+        if number > 13:
+            return None
+        if number < 5:
+            return Text.FACTS
+        alone = self._check(*_lent(facts, b""))
+        same = (alone.refusal, alone.place) == (number, refused.place)
+        return Text.FACTS if number < 8 and same else Text.QUERY
+
+
+def _run_of(text, start, ends):
+    return next((i for i in range(start, len(text)) if text[i] in ends), len(text))
+
+
+def _string(text):
+    """The end of the string at a text's start: after its closing quote, or at the line's end."""
+    end = _run_of(text, 1, b'"\n')
+    return end + (text[end : end + 1] == b'"')
+
+
+def _word(text):
+    """The end of the name or element at a text's start."""
+    return _run_of(text, _string(text) if text[:1] == b'"' else 0, b" \t\n")
+
+
+def _token(text):
+    """The end of the token at a text's start."""
+    if text[:1] == b'"':
+        return _string(text)
+    name = next((i for i, b in enumerate(text) if not (chr(b).isalnum() and b < 128) and b != ord("_")), len(text))
+    if name and not text[:1].isdigit():
+        return name
+    marks = (b"<->", b"->", b"<=", b">=", b"!=", b":=", b"/*")
+    return next((len(m) for m in marks if text.startswith(m)), 1)
+
+
+def _at(refused, which, text):
+    place = min(refused.place, len(text))
+    start = text.rfind(b"\n", 0, place) + 1
+    end = _run_of(text, place, b"\n")
+    rest = text[place:]
+    if refused.refusal in (Refusal.FACTS_TOO_LONG, Refusal.FACT_BYTE, Refusal.QUERY_TOO_LONG):
+        length = 1
+    else:
+        length = max(_word(rest), 1) if which is Text.FACTS else _token(rest)
+    first = max(start, place - BEFORE)
+    shown = text[first : min(end, place + AFTER)]
+    return At(which, text.count(b"\n", 0, place) + 1, place - start + 1, rest[:length], shown, place - first)
+
+
+def _plain(text):
+    """A text's bytes for the eye, one character each."""
+    return "".join(chr(b) if 32 <= b < 127 else " " if b == 9 else "?" for b in text)
