@@ -1,0 +1,30 @@
+/* The worked example, then a refusal. */
+#include "relcalc.h"
+
+#include <stdio.h>
+#include <string.h>
+
+static const char facts[] = "On C10 C5\nOn C5 C2\nOn B7 C10\nHeld B7\n";
+static uint64_t store[RELCALC_STORE_WORDS];
+static uint8_t output[32768];
+
+static int run(const char *query)
+{
+    relcalc_ran ran = relcalc_run((const uint8_t *)facts, strlen(facts), (const uint8_t *)query, strlen(query), 1000000, store,
+                                  RELCALC_STORE_WORDS, output, sizeof output);
+    if (ran.refusal) {
+        printf("refused %llu %llu\n", (unsigned long long)ran.refusal, (unsigned long long)ran.place);
+        return 1;
+    }
+    static const char *const endings[] = {"done", "spent", "full"};
+    fwrite(output, 1, ran.written, stdout);
+    printf("%s %llu\n", endings[ran.ending], (unsigned long long)ran.steps);
+    return 0;
+}
+
+int main(void)
+{
+    int first = run("Dep(x,y) := TC(On(x,y)); PRINT [\"Dep\"] Dep(x,y);");
+    int second = run("Dep(x) := TC(On(x,y));"); /* y is free on the right side only: refused 12 0 */
+    return !(first == 0 && second == 1);
+}

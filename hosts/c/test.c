@@ -1,0 +1,163 @@
+/* The calls from C: the worked example, refusals, null and equal texts, the largest sizes, a small stack. */
+#include "lent.h"
+#include "relcalc.h"
+
+#include <pthread.h>
+#include <stdio.h>
+#include <string.h>
+
+static const char F[] = "On C10 C5\nOn C5 C2\nOn B7 C10\nHeld B7\n";
+static const char Q[] = "Dep(x,y) := TC(On(x,y)); PRINT [\"Dep\"] Dep(x,y);";
+static const char page[] = "Dep B7 C10\nDep B7 C2\nDep B7 C5\nDep C10 C2\nDep C10 C5\nDep C5 C2\n";
+static uint64_t store[RELCALC_STORE_WORDS];
+static uint8_t output[32768];
+static int passed, failed;
+
+static void expect(int holds, const char *what)
+{
+    holds ? passed++ : failed++;
+    if (!holds)
+        printf("wrong: %s\n", what);
+}
+#define EXPECT(e) expect(e, #e)
+
+static size_t length(const char *text) { return text ? strlen(text) : 0; }
+
+static relcalc_checked check(const char *f, const char *q)
+{
+    return relcalc_check(lent_text(f), length(f), lent_text(q), length(q));
+}
+
+static relcalc_ran run(const char *f, const char *q, uint32_t budget, uint64_t *s, size_t words, uint8_t *o, size_t room)
+{
+    return relcalc_run(lent_text(f), length(f), lent_text(q), length(q), budget, lent_words(s), words, lent_bytes(o), room);
+}
+
+static relcalc_part element(const char *f, const char *q, size_t n)
+{
+    return relcalc_element(lent_text(f), length(f), lent_text(q), length(q), n);
+}
+
+static relcalc_chained chain(const char *f, const char *name, const char *a, const char *b, uint8_t *o, size_t room)
+{
+    return relcalc_chain(lent_text(f), length(f), lent_text(name), length(name), lent_text(a), length(a), lent_text(b), length(b),
+                         lent_bytes(o), room);
+}
+
+static int refused(relcalc_ran r, uint64_t refusal, uint64_t place)
+{
+    return r.refusal == refusal && r.place == place && !r.ending && !r.steps && !r.written;
+}
+
+static int ended(relcalc_ran r, uint64_t ending, uint64_t steps, uint64_t written)
+{
+    return !r.refusal && !r.place && r.ending == ending && r.steps == steps && r.written == written;
+}
+
+static int is_part(relcalc_part p, uint64_t text, uint64_t offset, uint64_t length)
+{
+    return p.text == text && p.offset == offset && p.length == length;
+}
+
+static void worked_example(void)
+{
+    relcalc_checked c = check(F, Q);
+    EXPECT(!c.refusal && !c.place && c.universe == 4 && c.words == 77 && c.relations == 3);
+    EXPECT(!memcmp(&c.records[0], &(relcalc_record){0, 0, 2, 2, 0}, sizeof c.records[0]));
+    EXPECT(!memcmp(&c.records[1], &(relcalc_record){0, 29, 4, 1, 4}, sizeof c.records[0]));
+    EXPECT(!memcmp(&c.records[2], &(relcalc_record){1, 0, 3, 2, 5}, sizeof c.records[0]));
+    EXPECT(!memcmp(&c.records[3], &(relcalc_record){0, 0, 0, 0, 0}, sizeof c.records[0]));
+    static const uint64_t tables[] = {2, 8, 0, 4, 1, 14, 12, 0, 4};
+    store[77] = 7, output[63] = 7;
+    EXPECT(ended(run(F, Q, 1000000, store, 78, output, 64), RELCALC_DONE, 2, 63));
+    EXPECT(!memcmp(output, page, 63) && output[63] == 7);
+    EXPECT(!memcmp(store, tables, sizeof tables) && store[9] == 0 && store[76] == 0 && store[77] == 7);
+    EXPECT(ended(run(F, Q, 1, store, 77, output, 63), RELCALC_SPENT, 1, 0));
+    EXPECT(ended(run(F, Q, 2, store, 77, output, 62), RELCALC_FULL, 1, 0));
+    EXPECT(is_part(element(F, Q, 1), RELCALC_IN_FACTS, 3, 3));
+    EXPECT(is_part(element(F, Q, 4), RELCALC_IN_QUERY, 0, 0));
+    EXPECT(is_part(element(F, Q, SIZE_MAX), RELCALC_IN_QUERY, 0, 0));
+    uint8_t numbers[66] = {0, 0, 0, 0, 9};
+    EXPECT(chain(F, "On", "B7", "C2", numbers, 65).count == 4 && !memcmp(numbers, "\0\1\3\2\t", 5));
+    EXPECT(chain(F, "On", "C2", "B7", numbers, 65).refusal == RELCALC_NO_CHAIN);
+    EXPECT(chain(F, "On", "B7", "C2", numbers, 64).refusal == RELCALC_BUFFER_SHORT);
+    EXPECT(chain(F, "Held", "B7", "C2", numbers, 65).refusal == RELCALC_NOT_IN_FACTS);
+}
+
+static void refusals(void)
+{
+    memset(store, 7, sizeof store), memset(output, 7, sizeof output);
+    EXPECT(refused(run(F, Q, 9, store, 76, output, 64), RELCALC_STORE_SHORT, 77));
+    EXPECT(refused(run(F, "PRINT On(x,y)", 9, store, 76, output, 64), RELCALC_NO_PROGRAM, 13));
+    int same = 1;
+    for (size_t i = 0; i < 76; i++)
+        same &= store[i] == 0x0707070707070707;
+    for (size_t i = 0; i < 64; i++)
+        same &= output[i] == 7;
+    EXPECT(same);
+}
+
+static void empty_and_equal(void)
+{
+    EXPECT(check(NULL, NULL).refusal == RELCALC_NO_PROGRAM);
+    EXPECT(refused(run(NULL, "", 0, NULL, 0, NULL, 0), RELCALC_NO_PROGRAM, 0));
+    EXPECT(ended(run(NULL, "PRINT ENDL;", 5, NULL, 0, NULL, 0), RELCALC_FULL, 0, 0));
+    EXPECT(ended(run(NULL, "PRINT FALSE();", 5, NULL, 0, NULL, 0), RELCALC_DONE, 1, 0));
+    EXPECT(chain(NULL, NULL, NULL, NULL, NULL, 0).refusal == RELCALC_NOT_IN_FACTS);
+    static const char one[] = ".\nPRINT ENDL;";
+    EXPECT(check(one, one).refusal == RELCALC_NO_TOKEN);
+    static const char blank[] = "\n\n \t\n";
+    EXPECT(check(blank, blank).refusal == RELCALC_NO_PROGRAM && check(blank, blank).place == 5);
+}
+
+static void largest_sizes(void)
+{
+    static char facts[32770], query[16386], ring[64 * 11 + 1];
+    char *at = facts;
+    for (int i = 0; i < 64; i++)
+        at += sprintf(at, "R0 e%02d e%02d e00\n", i, (i + 1) % 64);
+    for (int r = 1; r < 16; r++)
+        at += sprintf(at, "R%d e00 e00 e00\n", r);
+    memset(at, '\n', facts + 32768 - at);
+    memset(query + sprintf(query, "R1(x,y,z) := R0(x,y,z); PRINT EX(z, R1(x,y,z));"), ' ', 16384 - 47);
+    relcalc_checked c = check(facts, query);
+    EXPECT(!c.refusal && c.universe == 64 && c.words == RELCALC_STORE_WORDS && c.relations == 16);
+    EXPECT(ended(run(facts, query, UINT32_MAX, store, RELCALC_STORE_WORDS, output, sizeof output), RELCALC_DONE, 2, 512));
+    facts[32768] = '\n';
+    EXPECT(check(facts, query).refusal == RELCALC_FACTS_TOO_LONG && check(facts, query).place == 32768);
+    facts[32768] = 0, query[16384] = ' ';
+    EXPECT(check(facts, query).refusal == RELCALC_QUERY_TOO_LONG && check(facts, query).place == 16384);
+    for (int i = 0; i < 64; i++)
+        sprintf(ring + 11 * i, "On e%02d e%02d\n", i, (i + 1) % 64);
+    uint8_t numbers[RELCALC_CHAIN_BYTES];
+    EXPECT(chain(ring, "On", "e05", "e05", numbers, sizeof numbers).count == 65);
+}
+
+/* the deepest expression, on a thread with the stack that the header names */
+static void *deep(void *unused)
+{
+    char query[200];
+    sprintf(query, "PRINT %.*sHeld(x)%.*s;", 32, "((((((((((((((((((((((((((((((((", 32, "))))))))))))))))))))))))))))))))");
+    EXPECT(ended(run(F, query, 9, store, 70000, output, 64), RELCALC_DONE, 1, 3));
+    return unused;
+}
+
+static void small_stack(void)
+{
+    pthread_attr_t attributes;
+    pthread_t thread;
+    pthread_attr_init(&attributes);
+    pthread_attr_setstacksize(&attributes, 256 * 1024);
+    EXPECT(!pthread_create(&thread, &attributes, deep, NULL) && !pthread_join(thread, NULL));
+}
+
+int main(void)
+{
+    worked_example();
+    refusals();
+    empty_and_equal();
+    largest_sizes();
+    small_stack();
+    printf("%d passed, %d failed\n", passed, failed);
+    return failed > 0;
+}
