@@ -1,0 +1,146 @@
+//! Facts: lines, names, elements; rows 1 to 7.
+use crate::Refusal;
+use std::collections::BTreeSet;
+
+const RESERVED: &str = "AVG DIV ELSE ENDL EX EXEC EXIT FA FOR IF IN MAX MIN MOD NUMBER PRINT RELINFO STDERR STRING SUM TC TCFAST TO WHILE TRUE FALSE";
+
+pub fn is_reserved(word: &[u8]) -> bool {
+    RESERVED.split(' ').any(|r| r.as_bytes() == word)
+}
+
+pub fn is_letter(b: u8) -> bool {
+    b.is_ascii_alphabetic() || b == b'_'
+}
+
+pub fn is_name(word: &[u8]) -> bool {
+    !word.is_empty()
+        && word.len() <= 32
+        && is_letter(word[0])
+        && word.iter().all(|&b| is_letter(b) || b.is_ascii_digit())
+        && word != b"_"
+        && !is_reserved(word)
+}
+
+pub fn is_legal(b: u8) -> bool {
+    b == 9 || b == 10 || (32..=126).contains(&b)
+}
+
+pub struct Element {
+    pub value: Vec<u8>,
+    pub quoted: bool,
+    /// its first byte, or its opening quote
+    pub at: usize,
+}
+
+pub struct Fact {
+    pub name: Vec<u8>,
+    pub elements: Vec<Element>,
+}
+
+/// A relation with the first place of its name: text 0 is the facts, 1 the query.
+#[derive(Clone)]
+pub struct Relation {
+    pub name: Vec<u8>,
+    pub arity: usize,
+    pub text: usize,
+    pub at: usize,
+}
+
+pub struct Facts {
+    pub facts: Vec<Fact>,
+    pub relations: Vec<Relation>,
+    pub universe: BTreeSet<Vec<u8>>,
+}
+
+/// The lines that are read, each with the place of its first byte.
+fn lines(text: &[u8]) -> Vec<(usize, &[u8])> {
+    let mut found = Vec::new();
+    let mut at = 0;
+    for line in text.split(|&b| b == 10) {
+        if line.first() == Some(&b'.') {
+            break;
+        }
+        found.push((at, line));
+        at += line.len() + 1;
+    }
+    found
+}
+
+fn is_blank(b: u8) -> bool {
+    b == b' ' || b == 9
+}
+
+/// The elements of a line after its name; row 4, and row 5 at a fourth.
+fn elements(line: &[u8], at: usize, mut i: usize) -> Result<Vec<Element>, Refusal> {
+    let mut found = Vec::new();
+    loop {
+        while i < line.len() && is_blank(line[i]) {
+            i += 1;
+        }
+        if i == line.len() {
+            return Ok(found);
+        }
+        let start = i;
+        let quoted = line[i] == b'"';
+        let value = if quoted {
+            let Some(n) = line[i + 1..].iter().position(|&b| b == b'"') else {
+                return Err((4, at + start));
+            };
+            i += n + 2;
+            if i < line.len() && !is_blank(line[i]) {
+                return Err((4, at + start));
+            }
+            line[start + 1..i - 1].to_vec()
+        } else {
+            while i < line.len() && !is_blank(line[i]) {
+                i += 1;
+            }
+            line[start..i].to_vec()
+        };
+        if value.len() > 32 || value.contains(&b'"') {
+            return Err((4, at + start));
+        }
+        if found.len() == 3 {
+            return Err((5, at + start));
+        }
+        found.push(Element { value, quoted, at: at + start });
+    }
+}
+
+pub fn read(text: &[u8]) -> Result<Facts, Refusal> {
+    if text.len() > 32768 {
+        return Err((1, 32768));
+    }
+    let lines = lines(text);
+    for (at, line) in &lines {
+        if let Some(i) = line.iter().position(|&b| !is_legal(b)) {
+            return Err((2, at + i));
+        }
+    }
+    let mut all = Facts { facts: Vec::new(), relations: Vec::new(), universe: BTreeSet::new() };
+    for (at, line) in lines {
+        if line.first() == Some(&b'#') || line.iter().all(|&b| is_blank(b)) {
+            continue;
+        }
+        let end = line.iter().position(|&b| is_blank(b)).unwrap_or(line.len());
+        let name = &line[..end];
+        if !is_name(name) {
+            return Err((3, at));
+        }
+        let elements = elements(line, at, end)?;
+        match all.relations.iter().find(|r| r.name == name) {
+            Some(r) if r.arity != elements.len() => return Err((5, elements.last().map_or(at, |e| e.at))),
+            Some(_) => {}
+            None if all.relations.len() == 16 => return Err((6, at)),
+            None => all.relations.push(Relation { name: name.to_vec(), arity: elements.len(), text: 0, at }),
+        }
+        for e in &elements {
+            all.universe.insert(e.value.clone());
+            if all.universe.len() > 64 {
+                return Err((7, e.at));
+            }
+        }
+        all.facts.push(Fact { name: name.to_vec(), elements });
+    }
+    Ok(all)
+}

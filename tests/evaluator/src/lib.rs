@@ -1,0 +1,170 @@
+//! An evaluator of RML over RSF for the tests: written from document 01 alone, with sets of tuples and a big-step run, so that it shares
+//! no fault with the engine or its definition.
+pub mod facts;
+pub mod generate;
+pub mod json;
+pub mod meaning;
+pub mod names;
+pub mod parse;
+pub mod run;
+pub mod tokens;
+
+use facts::{Element, Facts};
+use meaning::{Set, World};
+use names::Names;
+use parse::Stmt;
+use run::{Ending, Run};
+use std::collections::{BTreeMap, BTreeSet};
+
+/// A row of document 01's table and its place.
+pub type Refusal = (u32, usize);
+
+/// Two accepted texts.
+pub struct Accepted {
+    pub facts: Facts,
+    pub program: Vec<Stmt>,
+    pub names: Names,
+    pub universe: Vec<Vec<u8>>,
+}
+
+fn table_words(u: usize, arity: usize) -> usize {
+    if arity < 2 {
+        1
+    } else {
+        u.pow(arity as u32 - 1)
+    }
+}
+
+pub fn accept(facts_text: &[u8], query: &[u8]) -> Result<Accepted, Refusal> {
+    let facts = facts::read(facts_text)?;
+    let tokens = tokens::read(query)?;
+    let program = parse::read(&tokens, query.len())?;
+    let names = names::check(&facts, &program)?;
+    let mut universe = facts.universe.clone();
+    for t in names::left_strings(&program) {
+        universe.insert(t.text.clone());
+        if universe.len() > 64 {
+            return Err((7, t.at));
+        }
+    }
+    Ok(Accepted { facts, program, names, universe: universe.into_iter().collect() })
+}
+
+/// A relation's record: text, offset, length, arity, first word.
+pub type Record = [usize; 5];
+
+#[derive(PartialEq, Debug)]
+pub struct Checked {
+    pub universe: usize,
+    pub words: usize,
+    pub records: Vec<Record>,
+}
+
+impl Accepted {
+    pub fn checked(&self) -> Checked {
+        let u = self.universe.len();
+        let mut records = Vec::new();
+        let (mut first, mut largest) = (0, 0);
+        for r in &self.names.relations {
+            records.push([r.text, r.at, r.name.len(), r.arity, first]);
+            first += table_words(u, r.arity);
+            largest = largest.max(table_words(u, r.arity));
+        }
+        Checked { universe: u, words: first + largest + 16 * u, records }
+    }
+    fn number(&self, text: &[u8]) -> usize {
+        self.universe.iter().position(|t| t == text).unwrap()
+    }
+    fn loaded(&self) -> BTreeMap<Vec<u8>, Set> {
+        let mut tables: BTreeMap<Vec<u8>, Set> = self.names.relations.iter().map(|r| (r.name.clone(), Set::new())).collect();
+        for f in &self.facts.facts {
+            let tuple = f.elements.iter().map(|e| self.number(&e.value)).collect();
+            tables.get_mut(&f.name).unwrap().insert(tuple);
+        }
+        tables
+    }
+    /// A table's words.
+    fn words(&self, tuples: &Set, arity: usize) -> Vec<u64> {
+        let u = self.universe.len();
+        let mut words = vec![0; table_words(u, arity)];
+        for t in tuples {
+            let (last, before) = t.split_last().map_or((0, &[][..]), |(l, b)| (*l, b));
+            words[before.iter().fold(0, |w, a| w * u + a)] |= 1u64 << last;
+        }
+        words
+    }
+}
+
+#[derive(PartialEq, Debug)]
+pub struct Ran {
+    pub ending: Ending,
+    pub steps: u64,
+    pub output: Vec<u8>,
+    /// the relations' words, in store order
+    pub tables: Vec<u64>,
+}
+
+pub fn check(facts: &[u8], query: &[u8]) -> Result<Checked, Refusal> {
+    Ok(accept(facts, query)?.checked())
+}
+
+pub fn run(facts: &[u8], query: &[u8], budget: u32, store: usize, room: usize) -> Result<Ran, Refusal> {
+    let w = accept(facts, query)?;
+    let needed = w.checked().words;
+    if store < needed {
+        return Err((14, needed));
+    }
+    let world = World { universe: &w.universe, names: &w.names, tables: w.loaded(), variables: BTreeMap::new() };
+    let quoted: BTreeSet<usize> =
+        w.facts.facts.iter().flat_map(|f| &f.elements).filter(|e| e.quoted).map(|e| w.number(&e.value)).collect();
+    let mut run = Run { world, quoted, budget: budget as u64, room, steps: 0, output: Vec::new() };
+    let ending = run.program(&w.program);
+    let tables = w.names.relations.iter().flat_map(|r| w.words(&run.world.tables[&r.name], r.arity)).collect();
+    Ok(Ran { ending, steps: run.steps, output: run.output, tables })
+}
+
+/// The text (0 facts, 1 query), offset and length of element n.
+pub fn element(facts: &[u8], query: &[u8], n: usize) -> [usize; 3] {
+    let Ok(w) = accept(facts, query) else {
+        return [1, 0, 0];
+    };
+    let Some(text) = w.universe.get(n) else {
+        return [1, 0, 0];
+    };
+    let mut in_facts = w.facts.facts.iter().flat_map(|f: &facts::Fact| &f.elements);
+    if let Some(Element { quoted, at, .. }) = in_facts.find(|e| e.value == *text) {
+        return [0, at + *quoted as usize, text.len()];
+    }
+    let t = names::left_strings(&w.program).into_iter().find(|t| t.text == *text).unwrap();
+    [1, t.at + 1, text.len()]
+}
+
+/// What a chain is owed between: the facts' pairs of that name and the two numbers; or the refusal.
+pub fn chain(facts: &[u8], name: &[u8], first: &[u8], second: &[u8], room: usize) -> Result<(Set, usize, usize), Refusal> {
+    let f = facts::read(facts)?;
+    let universe: Vec<&Vec<u8>> = f.universe.iter().collect();
+    let number = |t: &[u8]| universe.iter().position(|u| *u == t);
+    let (true, Some(a), Some(b)) = (f.relations.iter().any(|r| r.name == name && r.arity == 2), number(first), number(second)) else {
+        return Err((15, 0));
+    };
+    if room < 65 {
+        return Err((16, 0));
+    }
+    let of_name = f.facts.iter().filter(|g| g.name == name);
+    let pairs: Set = of_name.map(|g| g.elements.iter().map(|e| number(&e.value).unwrap()).collect()).collect();
+    if !meaning::reach(&pairs, universe.len()).contains(&vec![a, b]) {
+        return Err((17, 0));
+    }
+    Ok((pairs, a, b))
+}
+
+/// Whether numbers are a chain from a to b.
+pub fn is_chain(pairs: &Set, a: usize, b: usize, c: &[usize]) -> bool {
+    let inner: BTreeSet<usize> = c.iter().copied().collect();
+    let repeats = c.len() - inner.len();
+    c.len() >= 2
+        && c[0] == a
+        && c[c.len() - 1] == b
+        && c.windows(2).all(|p| pairs.contains(&p.to_vec()))
+        && (repeats == 0 || (repeats == 1 && a == b))
+}

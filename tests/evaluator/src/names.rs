@@ -1,0 +1,270 @@
+//! Kinds of names, free attributes and what a statement may hold; rows 11, 5, 6, then 13 and 12, then 7.
+use crate::facts::{Facts, Relation};
+use crate::parse::{Expr, Item, Stmt, Term};
+use crate::tokens::Token;
+use crate::Refusal;
+use std::collections::{BTreeMap, BTreeSet};
+
+#[derive(Clone, Copy, PartialEq)]
+enum Kind {
+    Relation(usize),
+    Attribute,
+    Variable { open: bool },
+}
+
+pub struct Names {
+    kinds: BTreeMap<Vec<u8>, Kind>,
+    pub relations: Vec<Relation>,
+}
+
+type Res = Result<(), Refusal>;
+
+impl Names {
+    pub fn is_variable(&self, name: &[u8]) -> bool {
+        matches!(self.kinds.get(name), Some(Kind::Variable { .. }))
+    }
+
+    fn relation(&mut self, t: &Token, arity: usize) -> Res {
+        match self.kinds.get(&t.text) {
+            Some(Kind::Relation(i)) if self.relations[*i].arity == arity => Ok(()),
+            Some(Kind::Relation(_)) => Err((5, t.at)),
+            Some(_) => Err((11, t.at)),
+            None if arity > 3 => Err((5, t.at)),
+            None if self.relations.len() == 16 => Err((6, t.at)),
+            None => {
+                self.kinds.insert(t.text.clone(), Kind::Relation(self.relations.len()));
+                self.relations.push(Relation { name: t.text.clone(), arity, text: 1, at: t.at });
+                Ok(())
+            }
+        }
+    }
+    fn attribute(&mut self, t: &Token) -> Res {
+        match self.kinds.get(&t.text) {
+            None | Some(Kind::Attribute) => {
+                self.kinds.insert(t.text.clone(), Kind::Attribute);
+                Ok(())
+            }
+            Some(_) => Err((11, t.at)),
+        }
+    }
+    fn term(&mut self, p: &Term) -> Res {
+        match p {
+            Term::Name(t) if self.kinds.get(&t.text) == Some(&Kind::Variable { open: true }) => Ok(()),
+            Term::Name(t) => self.attribute(t),
+            _ => Ok(()),
+        }
+    }
+    fn word(&mut self, p: &Term) -> Res {
+        match p {
+            Term::Name(t) if self.kinds.get(&t.text) != Some(&Kind::Variable { open: true }) => Err((11, t.at)),
+            _ => Ok(()),
+        }
+    }
+    fn expression(&mut self, e: &Expr) -> Res {
+        match e {
+            Expr::Atom(r, ps) => {
+                self.relation(r, ps.len())?;
+                ps.iter().try_for_each(|p| self.term(p))
+            }
+            Expr::True(ps) | Expr::False(ps) => ps.iter().try_for_each(|p| self.term(p)),
+            Expr::Sign(_, a, b) => {
+                self.term(a)?;
+                self.term(b)
+            }
+            Expr::Not(a) | Expr::Tc(a) => self.expression(a),
+            Expr::Two(_, a, b) | Expr::Compare(_, a, b) => {
+                self.expression(a)?;
+                self.expression(b)
+            }
+            Expr::Ex(x, a) | Expr::Fa(x, a) => {
+                self.attribute(x)?;
+                self.expression(a)
+            }
+        }
+    }
+    fn statements(&mut self, all: &[Stmt]) -> Res {
+        all.iter().try_for_each(|s| self.statement(s))
+    }
+    fn statement(&mut self, s: &Stmt) -> Res {
+        match s {
+            Stmt::Assign(_, r, left, e) => {
+                self.relation(r, left.len())?;
+                for p in left {
+                    if let Term::Name(t) = p {
+                        self.attribute(t)?;
+                    }
+                }
+                self.expression(e)
+            }
+            Stmt::Print(_, items) => items.iter().try_for_each(|i| match i {
+                Item::Rows(label, e) => {
+                    label.iter().try_for_each(|p| self.word(p))?;
+                    self.expression(e)
+                }
+                Item::Word(p) => self.word(p),
+                Item::Endl => Ok(()),
+            }),
+            Stmt::If(_, e, yes, no) => {
+                self.expression(e)?;
+                self.statements(yes)?;
+                self.statements(no)
+            }
+            Stmt::While(_, e, body) => {
+                self.expression(e)?;
+                self.statements(body)
+            }
+            Stmt::For(_, v, e, body) => {
+                match self.kinds.get(&v.text) {
+                    None | Some(Kind::Variable { open: false }) => {}
+                    _ => return Err((11, v.at)),
+                }
+                self.kinds.insert(v.text.clone(), Kind::Variable { open: false });
+                self.expression(e)?;
+                self.kinds.insert(v.text.clone(), Kind::Variable { open: true });
+                self.statements(body)?;
+                self.kinds.insert(v.text.clone(), Kind::Variable { open: false });
+                Ok(())
+            }
+            Stmt::Block(body) => self.statements(body),
+        }
+    }
+
+    /// The free attributes, in order of first free occurrence.
+    pub fn free(&self, e: &Expr) -> Vec<Vec<u8>> {
+        let mut found = Vec::new();
+        self.add_free(e, &BTreeSet::new(), &mut found);
+        found
+    }
+    fn add_terms(&self, ps: &[&Term], hidden: &BTreeSet<Vec<u8>>, found: &mut Vec<Vec<u8>>) {
+        for p in ps {
+            if let Term::Name(t) = p {
+                if !self.is_variable(&t.text) && !hidden.contains(&t.text) && !found.contains(&t.text) {
+                    found.push(t.text.clone());
+                }
+            }
+        }
+    }
+    fn add_free(&self, e: &Expr, hidden: &BTreeSet<Vec<u8>>, found: &mut Vec<Vec<u8>>) {
+        match e {
+            Expr::Atom(_, ps) | Expr::True(ps) | Expr::False(ps) => self.add_terms(&ps.iter().collect::<Vec<_>>(), hidden, found),
+            Expr::Sign(_, a, b) => self.add_terms(&[a, b], hidden, found),
+            Expr::Not(a) | Expr::Tc(a) => self.add_free(a, hidden, found),
+            Expr::Two(_, a, b) => {
+                self.add_free(a, hidden, found);
+                self.add_free(b, hidden, found);
+            }
+            Expr::Ex(x, a) | Expr::Fa(x, a) => {
+                let mut more = hidden.clone();
+                more.insert(x.text.clone());
+                self.add_free(a, &more, found);
+            }
+            Expr::Compare(..) => {}
+        }
+    }
+
+    /// All attribute names, and what each closure closes.
+    fn survey<'a>(&self, e: &'a Expr, names: &mut BTreeSet<Vec<u8>>, closures: &mut Vec<&'a Expr>) {
+        let mut terms = |ps: &[&Term]| {
+            for p in ps {
+                if let Term::Name(t) = p {
+                    if !self.is_variable(&t.text) {
+                        names.insert(t.text.clone());
+                    }
+                }
+            }
+        };
+        match e {
+            Expr::Atom(_, ps) | Expr::True(ps) | Expr::False(ps) => terms(&ps.iter().collect::<Vec<_>>()),
+            Expr::Sign(_, a, b) => terms(&[a, b]),
+            Expr::Not(a) => self.survey(a, names, closures),
+            Expr::Tc(a) => {
+                closures.push(a);
+                self.survey(a, names, closures);
+            }
+            Expr::Two(_, a, b) | Expr::Compare(_, a, b) => {
+                self.survey(a, names, closures);
+                self.survey(b, names, closures);
+            }
+            Expr::Ex(x, a) | Expr::Fa(x, a) => {
+                names.insert(x.text.clone());
+                self.survey(a, names, closures);
+            }
+        }
+    }
+    fn limits(&self, at: usize, left: &[Term], es: &[&Expr], right: bool) -> Res {
+        let mut names = BTreeSet::new();
+        let mut closures = Vec::new();
+        for p in left {
+            if let Term::Name(t) = p {
+                names.insert(t.text.clone());
+            }
+        }
+        for e in es {
+            self.survey(e, &mut names, &mut closures);
+        }
+        if names.len() > 4 || closures.len() > 16 {
+            return Err((13, at));
+        }
+        if !right || closures.iter().any(|e| self.free(e).len() != 2) {
+            return Err((12, at));
+        }
+        Ok(())
+    }
+    fn rows(&self, all: &[Stmt]) -> Res {
+        for s in all {
+            match s {
+                Stmt::Assign(at, _, left, e) => {
+                    let mut given = Vec::new();
+                    self.add_terms(&left.iter().collect::<Vec<_>>(), &BTreeSet::new(), &mut given);
+                    let (given, free): (BTreeSet<_>, BTreeSet<_>) = (given.into_iter().collect(), self.free(e).into_iter().collect());
+                    self.limits(*at, left, &[e], given == free)?;
+                }
+                Stmt::Print(at, items) => {
+                    let es: Vec<&Expr> = items.iter().filter_map(|i| if let Item::Rows(_, e) = i { Some(e) } else { None }).collect();
+                    let right = es.iter().all(|e| self.free(e).len() <= 3);
+                    self.limits(*at, &[], &es, right)?;
+                }
+                Stmt::If(at, e, yes, no) => {
+                    self.limits(*at, &[], &[e], self.free(e).is_empty())?;
+                    self.rows(yes)?;
+                    self.rows(no)?;
+                }
+                Stmt::While(at, e, body) => {
+                    self.limits(*at, &[], &[e], self.free(e).is_empty())?;
+                    self.rows(body)?;
+                }
+                Stmt::For(at, _, e, body) => {
+                    self.limits(*at, &[], &[e], self.free(e).len() == 1)?;
+                    self.rows(body)?;
+                }
+                Stmt::Block(body) => self.rows(body)?,
+            }
+        }
+        Ok(())
+    }
+}
+
+/// The strings on left-hand sides, in text order.
+pub fn left_strings(all: &[Stmt]) -> Vec<&Token> {
+    let mut found = Vec::new();
+    for s in all {
+        match s {
+            Stmt::Assign(_, _, left, _) => found.extend(left.iter().filter_map(|p| if let Term::Quoted(t) = p { Some(t) } else { None })),
+            Stmt::If(_, _, a, b) => {
+                found.extend(left_strings(a));
+                found.extend(left_strings(b));
+            }
+            Stmt::While(_, _, a) | Stmt::For(_, _, _, a) | Stmt::Block(a) => found.extend(left_strings(a)),
+            Stmt::Print(..) => {}
+        }
+    }
+    found
+}
+
+pub fn check(facts: &Facts, program: &[Stmt]) -> Result<Names, Refusal> {
+    let kinds = facts.relations.iter().enumerate().map(|(i, r)| (r.name.clone(), Kind::Relation(i))).collect();
+    let mut names = Names { kinds, relations: facts.relations.clone() };
+    names.statements(program)?;
+    names.rows(program)?;
+    Ok(names)
+}
