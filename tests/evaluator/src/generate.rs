@@ -1,4 +1,5 @@
 //! Texts for comparisons: facts and queries that are mostly accepted, the same with damage, and texts at each limit of document 01.
+use crate::accept;
 
 /// A small generator of pseudo-random numbers: the same seed gives the same texts on every machine.
 pub struct Random(u64);
@@ -31,6 +32,15 @@ pub struct Texts {
     pub budget: u32,
     /// words of store beyond those needed, or missing from them
     pub spare: i64,
+    pub room: usize,
+    pub chains: Vec<Chain>,
+}
+
+/// A call of the chain over the facts.
+pub struct Chain {
+    pub name: Vec<u8>,
+    pub first: Vec<u8>,
+    pub second: Vec<u8>,
     pub room: usize,
 }
 
@@ -364,41 +374,118 @@ fn repeated(n: usize, f: impl Fn(usize) -> String) -> String {
     (0..n).map(f).collect()
 }
 
-/// Texts at one of the limits, or one past it.
-pub fn limit(r: &mut Random) -> (Vec<u8>, Vec<u8>) {
-    let past = r.below(3); // one below, at, one past
+/// The limits of document 01 that texts can meet.
+pub const LIMITS: usize = 34;
+
+/// Texts one below a limit (past 0), at it (1) or one past it (2). Where document 01 asks for an exact number, that is the middle one.
+pub fn limit(kind: usize, past: usize) -> (Vec<u8>, Vec<u8>) {
     let n = |limit: usize| limit - 1 + past;
+    let names = |first: usize, count: usize| (first..first + count).map(|i| format!("a{i}")).collect::<Vec<_>>().join(",");
+    let nested = |open: &str, inside: &str, close: &str| format!("{}{inside}{}", open.repeat(n(32)), close.repeat(n(32)));
     let plain = "On(x,y) := On(y,x); PRINT On(x,y);".to_string();
     let few = "On C10 C5\nOn C5 C2\nOn B7 C10\nHeld B7\n".to_string();
-    let (facts, query) = match r.below(14) {
+    let single = "Held B7\n".to_string();
+    let (facts, query) = match kind {
         0 => (format!("{:#<width$}", "On a b\n#", width = n(32768)), plain),
         1 => (format!("Held {}\n", "e".repeat(n(32))), plain),
-        2 => (format!("{} a\n", "N".repeat(n(32))), plain),
-        3 => (repeated(n(16), |i| format!("R{i} a\n")), "PRINT R1(x);".into()),
-        4 => (repeated(n(64), |i| format!("Held e{i}\n")), "PRINT Held(x);".into()),
-        5 => (few, format!("{plain}{}", " ".repeat(n(16384) - plain.len()))),
-        6 => (few, format!("{}P(); ;", "P();".repeat(n(2048) / 4)).replace(" ;", &";".repeat(past))),
-        7 => (few, format!("PRINT {}Held(x){};", "(".repeat(n(32)), ")".repeat(n(32)))),
-        8 => (few, format!("{}P();{}", "{".repeat(n(32)), "}".repeat(n(32)))),
-        9 => (few, format!("PRINT EX({} {});", repeated(n(4), |i| format!("a{i},")), "On(a0,a1)")),
-        10 => (few, format!("PRINT [\"\"] {};", (0..n(16)).map(|_| "TC(On(x,y))").collect::<Vec<_>>().join("&"))),
-        11 => (few, repeated(n(16) - 2, |i| format!("N{i}(x) := Held(x);"))),
-        12 => (repeated(60, |i| format!("Held e{i}\n")), repeated(n(4), |i| format!("Held(\"s{i}\");"))),
-        _ => (few, format!("PRINT {}Held(x);", "!".repeat(n(32)))),
+        2 => (format!("Held \"{}\"\n", " ".repeat(n(32))), "PRINT Held(x);".into()),
+        3 => (format!("{} a\n", "N".repeat(n(32))), plain),
+        4 => (format!("T {}\n", "a ".repeat(n(3))), plain),
+        5 => (format!("On a b\nOn {}\n", "a ".repeat(n(2))), plain),
+        6 => (repeated(n(16), |i| format!("R{i} a\n")), "PRINT R1(x);".into()),
+        7 => (repeated(n(64), |i| format!("Held e{i}\n")), "PRINT Held(x);".into()),
+        8 => (repeated(n(64), |i| format!("On e{i} e{}\n", (i + 1) % n(64))), plain),
+        9 => (few, format!("{plain}{}", " ".repeat(n(16384) - plain.len()))),
+        10 => (few, format!("{}{}", "P();".repeat(511), ["PRINT ENDL;", "P();", "Held(\"\");"][past])),
+        11 => (few, format!("{}(x) := Held(x);", "N".repeat(n(32)))),
+        12 => (few, format!("PRINT Held({});", "x".repeat(n(32)))),
+        13 => (few, format!("PRINT \"{}\";", "s".repeat(n(32)))),
+        14 => (few, format!("Held(\"{}\");", "s".repeat(n(32)))),
+        15 => (few, format!("PRINT {};", nested("(", "Held(x)", ")"))),
+        16 => (few, nested("{", "P();", "}")),
+        17 => (few, format!("PRINT {}Held(x);", "!".repeat(n(32)))),
+        18 => (single, format!("PRINT {};", nested("EX(x,", "Held(x)", ")"))),
+        19 => (single, format!("PRINT {};", nested("FA(x,", "Held(x)", ")"))),
+        20 => (few, format!("PRINT {};", nested("TC(", "On(x,y)", ")"))),
+        21 => (few, nested("IF TRUE() {", "P();", "}")),
+        22 => (single, format!("{}P();{}", repeated(n(32), |i| format!("FOR v{i} IN Held(x) {{")), "}".repeat(n(32)))),
+        23 => (single, format!("{{IF TRUE() {{PRINT {}{}Held(x){};}}}}", "!".repeat(n(2)), "!(".repeat(14), ")".repeat(14))),
+        24 => (few, format!("PRINT EX({}, On(a0,a1));", names(0, n(4)))),
+        25 => (few, format!("PRINT [\"\"] {};", ["TC(On(x,y))"; 17][..n(16)].join("&"))),
+        26 => (few, format!("PRINT {}On(x,y){};", "TCFAST(".repeat(n(16)), ")".repeat(n(16)))),
+        27 => (few, repeated(n(16) - 2, |i| format!("N{i}(x) := Held(x);"))),
+        28 => (repeated(60, |i| format!("Held e{i}\n")), repeated(n(4), |i| format!("Held(\"s{i}\");"))),
+        29 => (few, format!("PRINT TRUE({});", names(0, n(3)))),
+        30 => (few, format!("R({});", names(0, n(3)))),
+        31 => (few, format!("FOR c IN TRUE({}) {{ PRINT c; }}", names(0, n(1)))),
+        32 => (few, format!("PRINT EX(a0,a1,a2, TC(TRUE({})));", names(0, n(2)))),
+        _ => {
+            let tables = repeated(16, |r| format!("R{r} e0 e0 e0\n"));
+            (format!("{tables}{}", repeated(n(64), |i| format!("R0 e{i} e{} e0\n", (i + 1) % 62))), "R1(x,y,z) := R0(x,z,y); PRINT R1(x,y,z);".into())
+        }
     };
     (facts.into_bytes(), query.into_bytes())
 }
 
-pub fn texts(r: &mut Random) -> Texts {
-    let (mut f, mut q) = if r.one_in(12) { limit(r) } else { (facts(r), query(r)) };
-    if r.one_in(4) {
-        damage(r, &mut q);
+/// Calls of the chain: mostly a name of pairs and elements of its lines.
+fn chains(r: &mut Random, facts: &[u8]) -> Vec<Chain> {
+    let words = |l: &[u8]| -> Vec<Vec<u8>> { l.split(|b| b" \t\"".contains(b)).filter(|w| !w.is_empty()).map(<[u8]>::to_vec).collect() };
+    let lines: Vec<Vec<Vec<u8>>> = facts.split(|&b| b == 10).map(words).collect();
+    let pairs: Vec<Vec<Vec<u8>>> = lines.iter().filter(|l| l.len() == 3).cloned().collect();
+    let mut found = Vec::new();
+    for _ in 0..4 {
+        let from = if pairs.is_empty() || r.one_in(8) { &lines } else { &pairs };
+        let name = r.pick(from).first().map_or(b"On".to_vec(), Vec::clone);
+        let same: Vec<&Vec<Vec<u8>>> = from.iter().filter(|l| l.first() == Some(&name)).collect();
+        let mut element = || match same.len() {
+            0 => b"absent".to_vec(),
+            _ if r.one_in(16) => r.pick(&ELEMENTS).as_bytes().to_vec(),
+            _ => r.pick(&same).get(1 + r.below(2)).map_or(b"absent".to_vec(), Vec::clone),
+        };
+        let (first, second) = (element(), element());
+        let second = if r.one_in(6) { first.clone() } else { second };
+        found.push(Chain { name, first, second, room: *r.pick(&[65, 65, 65, 66, 64, 200, 0]) });
     }
-    if r.one_in(10) {
-        damage(r, &mut f);
+    found
+}
+
+/// More nodes than this a run should not visit in a plain evaluation.
+const NODES: u64 = 1_000_000;
+
+fn nodes(facts: &[u8], query: &[u8]) -> u64 {
+    accept(facts, query).map_or(1, |w| w.nodes())
+}
+
+/// Half of the lines, again and again, until there are so few elements that a step of the query is short.
+fn fewer_facts(facts: &mut Vec<u8>, query: &[u8]) {
+    while !facts.is_empty() && nodes(facts, query) > NODES / 10 {
+        let lines = facts.split_inclusive(|&b| b == 10).count();
+        *facts = facts.split_inclusive(|&b| b == 10).take(lines / 2).collect::<Vec<_>>().concat();
     }
-    let budget = *r.pick(&[0, 1, 2, 3, 5, 10, 20, 50, 200]);
-    let spare = if r.one_in(8) { -1 } else { r.below(4) as i64 };
-    let room = if r.one_in(3) { r.below(60) } else { 4000 };
-    Texts { facts: f, query: q, budget, spare, room }
+}
+
+/// The comparison of this number: first each limit below, at and above it, then limits and random texts, some damaged.
+pub fn texts(number: u64) -> Texts {
+    let r = &mut Random::new(number);
+    let limits = 3 * LIMITS as u64;
+    let (mut facts, mut query) = match number {
+        k if k < limits => limit((k / 3) as usize, (k % 3) as usize),
+        _ if r.one_in(12) => limit(r.below(LIMITS), r.below(3)),
+        _ => (self::facts(r), self::query(r)),
+    };
+    if number >= limits && r.one_in(4) {
+        damage(r, &mut query);
+    }
+    if number >= limits && r.one_in(10) {
+        damage(r, &mut facts);
+    }
+    if number >= limits {
+        fewer_facts(&mut facts, &query);
+    }
+    let most = if number < limits { 1000 } else { *r.pick(&[0, 1, 2, 3, 5, 10, 20, 50, 200]) };
+    let budget = if number < limits { most } else { most.min(NODES / nodes(&facts, &query)) } as u32;
+    let spare = if number >= limits && r.one_in(8) { -1 } else { r.below(4) as i64 };
+    let room = if number >= limits && r.one_in(3) { r.below(60) } else { 4000 };
+    let chains = chains(r, &facts);
+    Texts { facts, query, budget, spare, room, chains }
 }

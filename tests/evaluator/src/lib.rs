@@ -1,10 +1,12 @@
 //! An evaluator of RML over RSF for the tests: written from document 01 alone, with sets of tuples and a big-step run, so that it shares
 //! no fault with the engine or its definition.
+pub mod cases;
 pub mod facts;
 pub mod generate;
 pub mod json;
 pub mod meaning;
 pub mod names;
+pub mod nodes;
 pub mod parse;
 pub mod run;
 pub mod tokens;
@@ -109,34 +111,39 @@ pub fn check(facts: &[u8], query: &[u8]) -> Result<Checked, Refusal> {
 }
 
 pub fn run(facts: &[u8], query: &[u8], budget: u32, store: usize, room: usize) -> Result<Ran, Refusal> {
-    let w = accept(facts, query)?;
-    let needed = w.checked().words;
-    if store < needed {
-        return Err((14, needed));
+    accept(facts, query)?.run(budget, store, room)
+}
+
+impl Accepted {
+    pub fn run(&self, budget: u32, store: usize, room: usize) -> Result<Ran, Refusal> {
+        let needed = self.checked().words;
+        if store < needed {
+            return Err((14, needed));
+        }
+        let world = World { universe: &self.universe, names: &self.names, tables: self.loaded(), variables: BTreeMap::new() };
+        let quoted: BTreeSet<usize> =
+            self.facts.facts.iter().flat_map(|f| &f.elements).filter(|e| e.quoted).map(|e| self.number(&e.value)).collect();
+        let mut run = Run { world, quoted, budget: budget as u64, room, steps: 0, output: Vec::new() };
+        let ending = run.program(&self.program);
+        let tables = self.names.relations.iter().flat_map(|r| self.words(&run.world.tables[&r.name], r.arity)).collect();
+        Ok(Ran { ending, steps: run.steps, output: run.output, tables })
     }
-    let world = World { universe: &w.universe, names: &w.names, tables: w.loaded(), variables: BTreeMap::new() };
-    let quoted: BTreeSet<usize> =
-        w.facts.facts.iter().flat_map(|f| &f.elements).filter(|e| e.quoted).map(|e| w.number(&e.value)).collect();
-    let mut run = Run { world, quoted, budget: budget as u64, room, steps: 0, output: Vec::new() };
-    let ending = run.program(&w.program);
-    let tables = w.names.relations.iter().flat_map(|r| w.words(&run.world.tables[&r.name], r.arity)).collect();
-    Ok(Ran { ending, steps: run.steps, output: run.output, tables })
+    fn element(&self, n: usize) -> [usize; 3] {
+        let Some(text) = self.universe.get(n) else {
+            return [1, 0, 0];
+        };
+        let mut in_facts = self.facts.facts.iter().flat_map(|f: &facts::Fact| &f.elements);
+        if let Some(Element { quoted, at, .. }) = in_facts.find(|e| e.value == *text) {
+            return [0, at + *quoted as usize, text.len()];
+        }
+        let t = names::left_strings(&self.program).into_iter().find(|t| t.text == *text).unwrap();
+        [1, t.at + 1, text.len()]
+    }
 }
 
 /// The text (0 facts, 1 query), offset and length of element n.
-pub fn element(facts: &[u8], query: &[u8], n: usize) -> [usize; 3] {
-    let Ok(w) = accept(facts, query) else {
-        return [1, 0, 0];
-    };
-    let Some(text) = w.universe.get(n) else {
-        return [1, 0, 0];
-    };
-    let mut in_facts = w.facts.facts.iter().flat_map(|f: &facts::Fact| &f.elements);
-    if let Some(Element { quoted, at, .. }) = in_facts.find(|e| e.value == *text) {
-        return [0, at + *quoted as usize, text.len()];
-    }
-    let t = names::left_strings(&w.program).into_iter().find(|t| t.text == *text).unwrap();
-    [1, t.at + 1, text.len()]
+pub fn element(accepted: &Result<Accepted, Refusal>, n: usize) -> [usize; 3] {
+    accepted.as_ref().map_or([1, 0, 0], |w| w.element(n))
 }
 
 /// What a chain is owed between: the facts' pairs of that name and the two numbers; or the refusal.

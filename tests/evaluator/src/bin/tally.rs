@@ -1,19 +1,31 @@
 //! How many generated texts are accepted, and how the others are refused: what the comparisons reach.
-use evaluator::generate::{texts, Random};
-use evaluator::{check, run};
+use evaluator::generate::{texts, LIMITS};
+use evaluator::{chain, check, run};
 use std::collections::BTreeMap;
 
 fn main() {
     let count: u64 = std::env::args().nth(1).map_or(20_000, |n| n.parse().expect("a number of texts"));
     let mut tally: BTreeMap<String, u64> = BTreeMap::new();
-    for seed in 0..count {
-        let t = texts(&mut Random::new(seed));
+    for number in 0..count {
+        let t = texts(number);
         let needed = check(&t.facts, &t.query).map_or(0, |c| c.words as i64);
         let what = match run(&t.facts, &t.query, t.budget, (needed + t.spare).max(0) as usize, t.room) {
             Ok(r) => format!("{:?}", r.ending),
-            Err((row, _)) => format!("refused {row:2}"),
+            Err((row, place)) => {
+                if number < 3 * LIMITS as u64 {
+                    println!("limit {:2} {}: refused {row} {place}", number / 3, ["below", "at", "above"][number as usize % 3]);
+                }
+                format!("refused {row:2}")
+            }
         };
         *tally.entry(what).or_default() += 1;
+        for c in t.chains {
+            let what = match chain(&t.facts, &c.name, &c.first, &c.second, c.room) {
+                Ok(_) => "chain".to_string(),
+                Err((row, _)) => format!("chain refused {row:2}"),
+            };
+            *tally.entry(what).or_default() += 1;
+        }
     }
     for (what, n) in tally {
         println!("{n:7} {what}");
