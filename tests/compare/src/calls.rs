@@ -1,0 +1,143 @@
+//! Each call of the archive held to the evaluator's answer, with all memory that it was lent.
+use evaluator::generate::Chain;
+use evaluator::run::Ending;
+use evaluator::{chain, element, is_chain, Accepted, Ran, Refusal};
+use relcalc::c;
+use std::collections::BTreeMap;
+use std::fmt;
+
+pub type Difference = Result<(), String>;
+
+/// How often each refusal and ending was met.
+#[derive(Default)]
+pub struct Met(BTreeMap<String, usize>);
+
+impl Met {
+    fn add(&mut self, what: String) {
+        *self.0.entry(what).or_default() += 1;
+    }
+    fn refused(&mut self, call: &str, r: &Refusal) {
+        self.add(format!("{call} {:2}", r.0));
+    }
+    /// Whether all of them were.
+    pub fn all(&self) -> Difference {
+        let check = (1..=13).map(|r| format!("check {r:2}"));
+        let run = (1..=14).map(|r| format!("run {r:2}"));
+        let chain = (1..=7).chain(15..=17).map(|r| format!("chain {r:2}"));
+        let endings = ["run Done", "run Spent", "run Full", "check accepted", "chain found"].map(String::from);
+        let never: Vec<String> = check.chain(run).chain(chain).chain(endings).filter(|w| !self.0.contains_key(w)).collect();
+        if never.is_empty() { Ok(()) } else { Err(format!("never met: {}", never.join(", "))) }
+    }
+}
+
+impl fmt::Display for Met {
+    fn fmt(&self, f: &mut fmt::Formatter) -> fmt::Result {
+        let all: Vec<String> = self.0.iter().map(|(what, n)| format!("{what}: {n}")).collect();
+        write!(f, "{}", all.join("; "))
+    }
+}
+
+fn same<T: PartialEq + fmt::Debug>(what: &str, archive: T, evaluator: T) -> Difference {
+    if archive == evaluator { Ok(()) } else { Err(format!("{what}: archive {archive:?}, evaluator {evaluator:?}")) }
+}
+
+/// Two stretches of memory, by their first difference.
+fn same_memory<T: PartialEq + fmt::Debug>(what: &str, archive: &[T], evaluator: &[T]) -> Difference {
+    match archive.iter().zip(evaluator).position(|(a, b)| a != b) {
+        None => Ok(()),
+        Some(i) => same(&format!("{what} {i}"), &archive[i], &evaluator[i]),
+    }
+}
+
+/// What lent memory holds before a call, different at each place.
+fn pattern(n: usize) -> Vec<u64> {
+    (1..=n as u64).map(|i| i.wrapping_mul(0x9E37_79B9_7F4A_7C15)).collect()
+}
+fn byte_pattern(n: usize) -> Vec<u8> {
+    (0..n).map(|i| (i % 251) as u8 + 3).collect()
+}
+
+pub fn check_differs(facts: &[u8], query: &[u8], accepted: &Result<Accepted, Refusal>, met: &mut Met) -> Difference {
+    let mut want = c::Checked::default();
+    match accepted {
+        Err(r) => {
+            met.refused("check", r);
+            (want.refusal, want.place) = (r.0 as u64, r.1 as u64);
+        }
+        Ok(w) => {
+            met.add("check accepted".into());
+            let k = w.checked();
+            (want.universe, want.words, want.relations) = (k.universe as u64, k.words as u64, k.records.len() as u64);
+            for (to, from) in want.records.iter_mut().zip(k.records) {
+                let [text, offset, length, arity, first] = from.map(|n| n as u64);
+                *to = c::Record { text, offset, length, arity, first };
+            }
+        }
+    }
+    same("check", c::check(facts, query), want)
+}
+
+/// Answers the evaluator's run, if the texts and the store are accepted.
+pub fn run_differs(facts: &[u8], query: &[u8], accepted: &Result<Accepted, Refusal>, budget: u32, words: usize, room: usize, met: &mut Met) -> Result<Option<Ran>, String> {
+    let (mut store, mut output) = (pattern(words), byte_pattern(room));
+    let (mut want_store, mut want_output) = (store.clone(), output.clone());
+    let mut want = c::Ran::default();
+    let answer = accepted.as_ref().map_err(|r| *r).and_then(|w| Ok((w.checked().words, w.run(budget, words, room)?)));
+    match &answer {
+        Err(r) => {
+            met.refused("run", r);
+            (want.refusal, want.place) = (r.0 as u64, r.1 as u64);
+        }
+        Ok((needed, ran)) => {
+            met.add(format!("run {:?}", ran.ending));
+            want.ending = match ran.ending {
+                Ending::Done => 0,
+                Ending::Spent => 1,
+                Ending::Full => 2,
+            };
+            (want.steps, want.written) = (ran.steps, ran.output.len() as u64);
+            want_store[..*needed].fill(0);
+            want_store[..ran.tables.len()].copy_from_slice(&ran.tables);
+            want_output[..ran.output.len()].copy_from_slice(&ran.output);
+        }
+    }
+    let found = c::run(facts, query, budget, &mut store, &mut output);
+    let lent = format!("run with budget {budget}, {words} words, {room} bytes");
+    same(&lent, found, want)?;
+    same_memory(&format!("{lent}: word"), &store, &want_store)?;
+    same_memory(&format!("{lent}: byte"), &output, &want_output)?;
+    Ok(answer.ok().map(|(_, ran)| ran))
+}
+
+/// All elements, and numbers that are none.
+pub fn elements_differ(facts: &[u8], query: &[u8], accepted: &Result<Accepted, Refusal>) -> Difference {
+    let u = accepted.as_ref().map_or(0, |w| w.universe.len());
+    for n in (0..=u + 1).chain([64, 255, 256, u32::MAX as usize + 1, usize::MAX]) {
+        let [text, offset, length] = element(accepted, n).map(|n| n as u64);
+        same(&format!("element {n}"), c::element(facts, query, n), c::Part { text, offset, length })?;
+    }
+    Ok(())
+}
+
+pub fn chain_differs(facts: &[u8], call: &Chain, met: &mut Met) -> Difference {
+    let before = byte_pattern(call.room);
+    let mut buffer = before.clone();
+    let found = c::chain(facts, &call.name, &call.first, &call.second, &mut buffer);
+    let text = |t: &[u8]| String::from_utf8_lossy(t).into_owned();
+    let lent = format!("chain {:?} {:?} {:?} with {} bytes", text(&call.name), text(&call.first), text(&call.second), call.room);
+    match chain(facts, &call.name, &call.first, &call.second, call.room) {
+        Err(r) => {
+            met.refused("chain", &r);
+            same(&lent, found, c::Chained { refusal: r.0 as u64, place: r.1 as u64, count: 0 })?;
+            same_memory(&format!("{lent}: byte"), &buffer, &before)
+        }
+        Ok((pairs, a, b)) => {
+            met.add("chain found".into());
+            same(&lent, (found.refusal, found.place, found.count <= 65), (0, 0, true))?;
+            let count = found.count as usize;
+            let numbers: Vec<usize> = buffer[..count].iter().map(|&n| n as usize).collect();
+            same(&format!("{lent}: {numbers:?} is a chain"), is_chain(&pairs, a, b, &numbers), true)?;
+            same_memory(&format!("{lent}: byte past {count}"), &buffer[count..], &before[count..])
+        }
+    }
+}

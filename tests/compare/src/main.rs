@@ -1,0 +1,135 @@
+//! Compares the archive with the evaluator, byte for byte: the check, runs, all elements and chains, over generated texts and over the
+//! cases. The last line is `N passed, M failed`, a text or case each.
+mod calls;
+
+use calls::{chain_differs, check_differs, elements_differ, run_differs, Difference, Met};
+use evaluator::cases::{chain_agrees, check_agrees, element_agrees, run_agrees};
+use evaluator::generate::{texts, Chain, Texts};
+use evaluator::json::{read, Json};
+use evaluator::run::Ending;
+use evaluator::{accept, Accepted, Refusal};
+
+/// Differences that are shown whole.
+const SHOWN: usize = 10;
+
+#[derive(Default)]
+struct Counts {
+    passed: usize,
+    failed: usize,
+}
+
+impl Counts {
+    fn add(&mut self, what: &str, found: Difference) {
+        let Err(difference) = found else {
+            self.passed += 1;
+            return;
+        };
+        self.failed += 1;
+        if self.failed <= SHOWN {
+            println!("{what}: {difference}");
+        }
+    }
+}
+
+/// The run that a text asks for, then runs with budget, store and buffer at the edge of what the first one took.
+fn runs_differ(t: &Texts, accepted: &Result<Accepted, Refusal>, met: &mut Met) -> Difference {
+    let needed = accepted.as_ref().map_or(0, |w| w.checked().words);
+    let words = if t.spare < 0 { needed.saturating_sub(1) } else { needed + t.spare as usize };
+    let run = |budget: u32, words: usize, room: usize, met: &mut Met| run_differs(&t.facts, &t.query, accepted, budget, words, room, met);
+    let Some(ran) = run(t.budget, words, t.room, met)? else {
+        return Ok(());
+    };
+    let (steps, written) = (ran.steps as u32, ran.output.len());
+    if ran.ending == Ending::Done {
+        run(u32::MAX, needed, written, met)?;
+        run(steps - 1, needed, written, met)?;
+    }
+    if written > 0 {
+        run(t.budget, needed + 1, written - 1, met)?;
+    }
+    run(steps, needed, written + 1, met)?;
+    Ok(())
+}
+
+fn text_differs(t: &Texts, met: &mut Met) -> Difference {
+    let accepted = accept(&t.facts, &t.query);
+    check_differs(&t.facts, &t.query, &accepted, met)?;
+    elements_differ(&t.facts, &t.query, &accepted)?;
+    runs_differ(t, &accepted, met)?;
+    t.chains.iter().try_for_each(|c| chain_differs(&t.facts, c, met))
+}
+
+fn agrees(holds: bool) -> Difference {
+    if holds { Ok(()) } else { Err("the evaluator's answer is not the case's".into()) }
+}
+
+fn case_differs(c: &Json, met: &mut Met) -> Difference {
+    let (facts, query) = (c.get("facts").bytes(), c.get("query").bytes());
+    let accepted = accept(&facts, &query);
+    agrees(check_agrees(c, &facts, &query) && run_agrees(c, &facts, &query))?;
+    check_differs(&facts, &query, &accepted, met)?;
+    elements_differ(&facts, &query, &accepted)?;
+    let number = |key: &str| c.get(key).number() as usize;
+    run_differs(&facts, &query, &accepted, number("budget") as u32, number("store"), number("out"), met)?;
+    Ok(())
+}
+
+fn element_case_differs(c: &Json) -> Difference {
+    agrees(element_agrees(c))?;
+    let (facts, query) = (c.get("facts").bytes(), c.get("query").bytes());
+    elements_differ(&facts, &query, &accept(&facts, &query))
+}
+
+fn chain_case_differs(c: &Json, met: &mut Met) -> Difference {
+    agrees(chain_agrees(c))?;
+    let bytes = |key: &str| c.get(key).bytes();
+    let chain = Chain { name: bytes("rel"), first: bytes("a"), second: bytes("b"), room: c.get("buflen").number() as usize };
+    chain_differs(&bytes("facts"), &chain, met)
+}
+
+fn cases(path: &str, counts: &mut Counts, met: &mut Met) {
+    let all = read(&std::fs::read_to_string(path).expect("a file of cases"));
+    let name = |c: &Json| format!("case {}", c.get("name").text());
+    all.get("cases").list().iter().for_each(|c| counts.add(&name(c), case_differs(c, met)));
+    all.get("elements").list().iter().for_each(|c| counts.add(&name(c), element_case_differs(c)));
+    all.get("chains").list().iter().for_each(|c| counts.add(&name(c), chain_case_differs(c, met)));
+}
+
+/// `--count N` texts from `--first K` on, and the cases in `--cases FILE`.
+struct Options {
+    first: u64,
+    count: u64,
+    cases: String,
+}
+
+fn options() -> Options {
+    let mut found = Options { first: 0, count: 20_000, cases: concat!(env!("CARGO_MANIFEST_DIR"), "/../cases.json").into() };
+    let mut words = std::env::args().skip(1);
+    while let Some(word) = words.next() {
+        let value = words.next().unwrap_or_else(|| panic!("{word} of what?"));
+        match word.as_str() {
+            "--first" => found.first = value.parse().expect("a number"),
+            "--count" => found.count = value.parse().expect("a number"),
+            "--cases" => found.cases = value,
+            _ => panic!("unknown option {word}"),
+        }
+    }
+    found
+}
+
+fn main() {
+    let o = options();
+    let (mut counts, mut met) = (Counts::default(), Met::default());
+    for number in o.first..o.first + o.count {
+        let t = texts(number);
+        let found = text_differs(&t, &mut met);
+        counts.add(&format!("text {number}"), found.map_err(|d| format!("{d}\n  facts {:?}\n  query {:?}", String::from_utf8_lossy(&t.facts), String::from_utf8_lossy(&t.query))));
+    }
+    cases(&o.cases, &mut counts, &mut met);
+    if o.first == 0 && o.count >= 20_000 {
+        counts.add("texts", met.all());
+    }
+    println!("{met}");
+    println!("{} passed, {} failed", counts.passed, counts.failed);
+    std::process::exit((counts.failed > 0) as i32);
+}
