@@ -1,4 +1,6 @@
 """The wrapper over the shared object: the worked example, refusals, empty and equal texts, the largest sizes."""
+import os
+import re
 import sys
 import unittest
 
@@ -7,7 +9,17 @@ from relcalc import CHAIN_BYTES, STORE_WORDS, Ending, Part, Refusal, Refused, Re
 FACTS = b"On C10 C5\nOn C5 C2\nOn B7 C10\nHeld B7\n"
 QUERY = b'Dep(x,y) := TC(On(x,y)); PRINT ["Dep"] Dep(x,y);'
 PAGE = b"Dep B7 C10\nDep B7 C2\nDep B7 C5\nDep C10 C2\nDep C10 C5\nDep C5 C2\n"
+GUIDE = os.path.join(os.path.dirname(os.path.abspath(__file__)), "..", "..", "docs", "QUERIES.md")
 rc = Relcalc()
+
+
+def guide_rows():
+    """The cells of the guide's rows with an example, and the words in code of the last two."""
+    with open(GUIDE, encoding="utf-8") as page:
+        for line in page:
+            cells = [c.strip().replace("\\|", "|") for c in re.split(r"(?<!\\)\|", line)[1:-1]]
+            if len(cells) == 4:
+                yield cells, *(re.findall("`([^`]*)`", c) for c in cells[2:])
 
 
 class Host(unittest.TestCase):
@@ -105,6 +117,23 @@ class Host(unittest.TestCase):
         self.refused(Refusal.QUERY_TOO_LONG, 16384, rc.check, facts, query + b" ")
         ring = b"".join(b"On e%02d e%02d\n" % (i, (i + 1) % 64) for i in range(64))
         self.assertEqual(len(rc.chain(ring, "On", "e05", "e05", room=CHAIN_BYTES)), 65)
+
+    def test_examples_of_the_guide(self):
+        checked = 0
+        for cells, example, prints in guide_rows():
+            if prints:
+                ran = rc.run(FACTS, example[0])
+                self.assertEqual((ran.ending, ran.output.decode().splitlines()), (Ending.DONE, prints), cells)
+            elif cells[2].startswith("facts `"):
+                self.refused(Refusal(int(cells[0])), int(cells[3]), rc.check, "\n".join(example) + "\n", "PRINT ENDL;")
+            elif cells[2].startswith("`"):
+                self.refused(Refusal(int(cells[0])), int(cells[3]), rc.check, FACTS, example[0])
+            else:
+                continue
+            checked += 1
+        self.assertEqual(checked, 27)
+        self.refused(Refusal.TOO_MANY_RELATIONS, 0, rc.check, "".join(f"R{i}\n" for i in range(16)), "New();")
+        self.refused(Refusal.TOO_MANY_ELEMENTS, 5, rc.check, "".join(f"Held {i}\n" for i in range(64)), 'Held("New");')
 
 
 if __name__ == "__main__":
