@@ -1,4 +1,5 @@
 /* The calls from C: the worked example, refusals, null and equal texts, the largest sizes, a small stack. */
+#define _POSIX_C_SOURCE 200809L
 #include "lent.h"
 #include "relcalc.h"
 
@@ -133,22 +134,41 @@ static void largest_sizes(void)
     EXPECT(chain(ring, "On", "e05", "e05", numbers, sizeof numbers).count == 65);
 }
 
-/* the deepest expression, on a thread with the stack that the header names */
-static void *deep(void *unused)
+/* Runs a query on a thread whose stack is filled with a pattern, and answers how much of it was used. */
+static _Alignas(4096) uint8_t stack[1 << 20];
+
+static void *run_deep(void *query)
 {
-    char query[200];
-    sprintf(query, "PRINT %.*sHeld(x)%.*s;", 32, "((((((((((((((((((((((((((((((((", 32, "))))))))))))))))))))))))))))))))");
-    EXPECT(ended(run(F, query, 9, store, 70000, output, 64), RELCALC_DONE, 1, 3));
-    return unused;
+    EXPECT(ended(run(F, query, 9, store, RELCALC_STORE_WORDS, output, sizeof output), RELCALC_DONE, 1, 0));
+    return NULL;
+}
+
+static size_t stack_used(char *query)
+{
+    pthread_attr_t attributes;
+    pthread_t thread;
+    memset(stack, 0xA5, sizeof stack);
+    pthread_attr_init(&attributes);
+    pthread_attr_setstack(&attributes, stack, sizeof stack);
+    EXPECT(!pthread_create(&thread, &attributes, run_deep, query) && !pthread_join(thread, NULL));
+    size_t free = 0;
+    while (free < sizeof stack && stack[free] == 0xA5)
+        free++;
+    return sizeof stack - free;
 }
 
 static void small_stack(void)
 {
-    pthread_attr_t attributes;
-    pthread_t thread;
-    pthread_attr_init(&attributes);
-    pthread_attr_setstacksize(&attributes, 256 * 1024);
-    EXPECT(!pthread_create(&thread, &attributes, deep, NULL) && !pthread_join(thread, NULL));
+    static char brackets[100], chain[2200];
+    sprintf(brackets, "PRINT %.*sP()%.*s;", 32, "((((((((((((((((((((((((((((((((", 32, "))))))))))))))))))))))))))))))))");
+    char *at = chain + sprintf(chain, "PRINT ");
+    for (int i = 0; i < 510; i++)
+        at += sprintf(at, "P()&");
+    sprintf(at, "P();");
+    size_t deep = stack_used(brackets), lengthy = stack_used(chain);
+    printf("stack: %zu bytes at 32 levels, %zu in the longest chain of &\n", deep, lengthy);
+    EXPECT(deep < 256 * 1024);
+    EXPECT(lengthy < 256 * 1024);
 }
 
 int main(void)

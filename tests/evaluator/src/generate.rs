@@ -375,7 +375,7 @@ fn repeated(n: usize, f: impl Fn(usize) -> String) -> String {
 }
 
 /// The limits of document 01 that texts can meet.
-pub const LIMITS: usize = 34;
+pub const LIMITS: usize = 37;
 
 /// Texts one below a limit (past 0), at it (1) or one past it (2). Where document 01 asks for an exact number, that is the middle one.
 pub fn limit(kind: usize, past: usize) -> (Vec<u8>, Vec<u8>) {
@@ -393,7 +393,7 @@ pub fn limit(kind: usize, past: usize) -> (Vec<u8>, Vec<u8>) {
         4 => (format!("T {}\n", "a ".repeat(n(3))), plain),
         5 => (format!("On a b\nOn {}\n", "a ".repeat(n(2))), plain),
         6 => (repeated(n(16), |i| format!("R{i} a\n")), "PRINT R1(x);".into()),
-        7 => (repeated(n(64), |i| format!("Held e{i}\n")), "PRINT Held(x);".into()),
+        7 => (repeated(n(64), |i| format!("Held e{i}\n")), "FOR c IN Held(x) { PRINT c, ENDL; } PRINT !Held(x);".into()),
         8 => (repeated(n(64), |i| format!("On e{i} e{}\n", (i + 1) % n(64))), plain),
         9 => (few, format!("{plain}{}", " ".repeat(n(16384) - plain.len()))),
         10 => (few, format!("{}{}", "P();".repeat(511), ["PRINT ENDL;", "P();", "Held(\"\");"][past])),
@@ -419,6 +419,9 @@ pub fn limit(kind: usize, past: usize) -> (Vec<u8>, Vec<u8>) {
         30 => (few, format!("R({});", names(0, n(3)))),
         31 => (few, format!("FOR c IN TRUE({}) {{ PRINT c; }}", names(0, n(1)))),
         32 => (few, format!("PRINT EX(a0,a1,a2, TC(TRUE({})));", names(0, n(2)))),
+        33 => (few, format!("PRINT {}{}P();", "!".repeat(n(3)), "P()&".repeat(510))),
+        34 => (few, format!("PRINT {}{}Held(x);", "!".repeat(n(5)), "On(x,y)|".repeat(291))),
+        35 => (few, format!("{}PRINT {}ENDL;", ["P();", "R(x);", "{P();}"][past], "ENDL,".repeat(1020))),
         _ => {
             let tables = repeated(16, |r| format!("R{r} e0 e0 e0\n"));
             (format!("{tables}{}", repeated(n(64), |i| format!("R0 e{i} e{} e0\n", (i + 1) % 62))), "R1(x,y,z) := R0(x,z,y); PRINT R1(x,y,z);".into())
