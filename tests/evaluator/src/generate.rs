@@ -1,4 +1,5 @@
-//! Texts for comparisons: facts and queries that are mostly accepted, the same with damage, and texts at each limit of document 01.
+//! Texts for comparisons: facts and queries that are mostly accepted, the same with damage, texts with several faults, and texts at each
+//! limit of document 01.
 use crate::accept;
 
 /// A small generator of pseudo-random numbers: the same seed gives the same texts on every machine.
@@ -302,7 +303,9 @@ impl Writer<'_> {
         self.put("\n");
     }
     fn for_loop(&mut self, d: usize) {
-        let Some(v) = VARIABLES.iter().find(|v| !self.open.contains(v)) else {
+        // bound again, now and then
+        let again = self.r.one_in(40);
+        let Some(v) = VARIABLES.iter().find(|v| again || !self.open.contains(v)) else {
             return self.assignment();
         };
         let x = self.attributes[0];
@@ -430,6 +433,30 @@ pub fn limit(kind: usize, past: usize) -> (Vec<u8>, Vec<u8>) {
     (facts.into_bytes(), query.into_bytes())
 }
 
+/// Several faults of different rows in one text, in any order: which of them is met?
+fn faults(r: &mut Random) -> (Vec<u8>, Vec<u8>) {
+    let deep = format!("PRINT {}P(){};", "(".repeat(33), ")".repeat(33));
+    let wide = format!("PRINT {}TC(On(x,y));", "TC(On(x,y))&".repeat(16));
+    let relations = repeated(15, |i| format!("N{i}(x) := Held(x);"));
+    let elements = repeated(64, |i| format!("Held(\"s{i}\");"));
+    let lines = [
+        "On a b", "Held a", "T a b c", "P", "# c", " ", "On \"a b\" c", ".", "Held \x01", "# \x7f", "7Y a", " Held a", "On\"a\" b", "IF a", "Held \"a",
+        "Held a\"", "Held \"a\"b", "On a", "On", "T a b c d", "T a b c d\"", "T a b c \"d", "T a b \"c d", "On a b \"c", "On \"a\" \"b\" \"c\"", "P a",
+    ];
+    let statements = [
+        "On(x,y) := On(y,x);", "P();", "PRINT Held(x), ENDL;", "FOR c IN Held(x) { PRINT c; }", "{ Held(\"z\"); }", "@", "5", "PRINT \"open", "/* open",
+        "PRINT ABCDEFGHIJKLMNOPQRSTUVWXYZABCDEFG(x);", "\x01", "PRINT \"\x02\";", "PRINT", "On(x,y) := ;", "P() := P() -> P() -> P();", "x = y;", "ELSE",
+        "TO();", "PRINT On;", "PRINT x;", "FOR x IN Held(y) { P(); }", "FOR c IN Held(c) { P(); }", "PRINT c;", "c(x);", "PRINT On(On,x);", "P(x);",
+        "PRINT On(x);", "PRINT New(x,y,z,a);", "Held(x) := On(x,y);", "PRINT TC(On(x,x));", "IF Held(x) { On(x); }", "WHILE P() { Held(x) := P(); }",
+        "FOR d IN On(x,y) { P(); }", "PRINT TRUE(x,y,z,a);", "PRINT EX(x,y,z,a,b, On(x));", "PRINT EX(x,y,z,a,b, P());", &deep, &wide, &relations, &elements,
+    ];
+    // the first 7 lines and 5 statements have no fault
+    let most = if r.one_in(2) { lines.len() } else { 7 };
+    let facts: Vec<&str> = (0..r.below(8)).map(|_| if r.one_in(3) { lines[r.below(most)] } else { lines[r.below(7)] }).collect();
+    let query: Vec<&str> = (0..1 + r.below(6)).map(|_| if r.one_in(2) { *r.pick(&statements) } else { statements[r.below(5)] }).collect();
+    (facts.join("\n").into_bytes(), query.join("\n").into_bytes())
+}
+
 /// Calls of the chain: mostly a name of pairs and elements of its lines.
 fn chains(r: &mut Random, facts: &[u8]) -> Vec<Chain> {
     let words = |l: &[u8]| -> Vec<Vec<u8>> { l.split(|b| b" \t\"".contains(b)).filter(|w| !w.is_empty()).map(<[u8]>::to_vec).collect() };
@@ -474,9 +501,10 @@ pub fn texts(number: u64) -> Texts {
     let (mut facts, mut query) = match number {
         k if k < limits => limit((k / 3) as usize, (k % 3) as usize),
         _ if r.one_in(12) => limit(r.below(LIMITS), r.below(3)),
+        _ if r.one_in(5) => faults(r),
         _ => (self::facts(r), self::query(r)),
     };
-    if number >= limits && r.one_in(4) {
+    if number >= limits && r.one_in(5) {
         damage(r, &mut query);
     }
     if number >= limits && r.one_in(10) {
