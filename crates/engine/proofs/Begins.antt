@@ -7,12 +7,13 @@ use lib.ListN.{length, getD, take, replicate, length-replicate}
 use lib.Seq.{getD-take, length-take-le}
 use Rattle.definition.specs.Text.{Text}
 use Rattle.definition.specs.Limits.{document-01, FACT-BYTES}
-use Rattle.definition.specs.Answer.{ok}
+use Rattle.definition.specs.Answer.{ok, refused, number, place}
 use Rattle.definition.specs.Accept.{Accepted, accept, elements, words-needed}
 use Rattle.definition.specs.Assignment.{loaded}
 use Rattle.definition.specs.Claim.{store-image}
 use Rattle.definition.specs.Calls.{RunMeets}
 use Rattle.definition.specs.declared.Ran.the-variants.{Refused}
+use Rattle.definition.specs.declared.Refusal.{Refusal}
 use Rattle.definition.specs.declared.Refusal.the-variants.{StoreShort}
 use Rattle.definition.proofs.CallLaws.{run-short}
 use Rattle.words.specs.Fields.{kind-of}
@@ -26,8 +27,11 @@ use Rattle.coded.proofs.Coded.{Lowering, coded, code-length}
 use Rattle.loading.specs.Given.{Ready}
 use Rattle.layout.specs.Sizes.{LaidOut}
 use Rattle.acceptance.specs.declared.Sizes.{Sizes}
+use Rattle.acceptance.specs.declared.Texts.{Texts}
+use Rattle.acceptance.specs.declared.Texts.the-variants as Texts
 use Rattle.acceptance.specs.Reading.{Reading, Sized}
 use Rattle.chain.proofs.Asking.{read-short}
+use Rattle.engine.specs.Given.{Given, Fits, Prepared, prepared, refuses}
 use Rattle.engine.specs.Begun.{Begun, no-depths}
 
 -- the first words of a longer array are lowered too
@@ -49,35 +53,17 @@ pub passed-short : {facts query : Text} {places tokens ids known words low : Lis
     → Passed facts query places tokens ids known words (take (length words) low) u d
 passed-short {words = words} p = record { made = λ k h s f. made-short (length words) h (p .made k h s f) }
 
--- the first n places of some are at most 64
-pub few-taken : (n : ℕ) (xs : List ℕ) → n ≤ length xs → length (take n xs) ≤ 64 → n ≤ 64
-few-taken n xs h l = omega (arith, length-take-le n xs h)
-
-pub sized-elements : (facts query : Text) (tokens words ids known relations places : List ℕ) (s : Sizes) (w : Accepted) → Sized facts query tokens words ids known relations places s w → elements w ≡ s .elements
-sized-elements facts query tokens words ids known relations places s w z =
-    filled-count facts query (take (s .tokens) tokens) (take (s .words) words) (take (s .elements) places) w (z .reading .filled) ∙ length-take-le (s .elements) places (z .places-inside)
-
 module _ (facts query : Text) (tokens words ids known relations places : List ℕ) (w : Accepted) (r : Reading facts query tokens words ids known relations places w) where
-  pub facts-short : length facts ≤ FACT-BYTES
-  facts-short = read-short facts (r .facts-read) (r .read)
-
   pub size-is : elements w ≡ length places
   size-is = filled-count facts query tokens words places w (r .filled)
 
-  pub too-short : (firsts : List ℕ) (scratch needed : ℕ) (store : List ℕ) (buffer : Text) (budget : ℕ) → LaidOut w firsts scratch needed → length store < needed
-      → RunMeets document-01 facts query budget store buffer (Refused (StoreShort needed)) store buffer
-  too-short firsts scratch needed store buffer budget l h =
-      subst (λ (n : ℕ). RunMeets document-01 facts query budget store buffer (Refused (StoreShort n)) store buffer) (sym (l .needed))
-      (run-short document-01 facts query budget store buffer w (r .accepted) (omega (arith, l .needed)))
+  -- what the passes leave, with the lowered words
+  module _ (u : ℕ) (size : elements w ≡ u) (low : List ℕ) (h : length words ≤ length low) (p : Passed facts query places tokens ids known words low u no-depths) where
+    abbrev front : List ℕ
+    front = take (length words) low
 
-  module _ (u : ℕ) (size : elements w ≡ u) where
-    pub ready : (firsts : List ℕ) (scratch needed : ℕ) → LaidOut w firsts scratch needed → Ready facts query relations places firsts u w
-    ready firsts scratch needed l =
-        record { accepted = r .accepted; relations = r .relations-are; universe = sym (r .filled .universe); size = sym size; scratch = scratch; laid = l .laid }
-
-    lowering : (low : List ℕ) → length words ≤ length low → Passed facts query places tokens ids known words low u no-depths
-        → Lowering facts query w tokens ids known relations words places (take (length words) low) (length relations) (r .kinds) (r .ts) no-depths
-    lowering low h p = record {
+    lowering : Lowering facts query w tokens ids known relations words places front (length relations) (r .kinds) (r .ts) no-depths
+    lowering = record {
       accepted = r .accepted;
       read = r .facts-read;
       facts-read = r .read;
@@ -92,20 +78,82 @@ module _ (facts query : Text) (tokens words ids known relations places : List �
       room = λ i a. let zeros : List ℕ = replicate 2064 0 in let e : length zeros ≡ 2064 = length-replicate {A = ℕ} 2064 0 in omega (arith, e, r .numbers i a);
     }
 
-    pub begins : (low firsts : List ℕ) (scratch needed : ℕ) (store₀ store : List ℕ) → length words ≤ length low → Passed facts query places tokens ids known words low u no-depths
-        → LaidOut w firsts scratch needed → needed ≤ length store₀ → store ≡ store-image w (loaded w) store₀
-        → Begun facts query (take (length words) low) firsts places u scratch store₀ store w
-    begins low firsts scratch needed store₀ store h p l long e =
-        let L = lowering low h p in
-        let c = coded facts query w tokens ids known relations words places (take (length words) low) (length relations) (r .kinds) (r .ts) no-depths L in
+    pub given-so : Given facts query relations places front w
+    given-so =
+        let c = coded facts query w tokens ids known relations words places front (length relations) (r .kinds) (r .ts) no-depths lowering in
         record {
           accepted = r .accepted;
-          size = size;
-          laid = l .laid;
+          size = size-is;
+          relations-are = r .relations-are;
+          universe-is = sym (r .filled .universe);
           shows = filled-shows facts query tokens words places w (r .filled);
           code =
-              subst (Code w query (take (length words) low) [] (w .program) 0)
-              (code-length facts query w tokens ids known relations words places (take (length words) low) (length relations) (r .kinds) (r .ts) no-depths L) c;
-          long = omega (arith, l .needed);
-          image = e;
+              subst (Code w query front [] (w .program) 0)
+              (code-length facts query w tokens ids known relations words places front (length relations) (r .kinds) (r .ts) no-depths lowering) c;
+          few-relations = r .few-relations;
+          few-places = r .few-places;
+          short = read-short facts (r .facts-read) (r .read);
         }
+
+-- the passes' sizes are small
+pub few-sized : (facts query : Text) (tokens words ids known relations places : List ℕ) (s : Sizes) (w : Accepted) → Sized facts query tokens words ids known relations places s w
+    → (s .elements ≤ 64) × (s .words ≤ 2048)
+few-sized facts query tokens words ids known relations places s w z = (
+  omega (arith, length-take-le (s .elements) places (z .places-inside), z .reading .few-places),
+  omega (arith, length-take-le (s .words) words (z .words-inside), z .reading .few-words),
+)
+
+-- the same of arrays whose first cells the passes filled
+pub fits-so : (facts query : Text) (tokens words ids known relations places : List ℕ) (s : Sizes) (w : Accepted) → Sized facts query tokens words ids known relations places s w
+    → (u : ℕ) → s .elements ≡ u → (low : List ℕ) → s .words ≤ length low
+    → Passed facts query (take (s .elements) places) (take (s .tokens) tokens) ids known (take (s .words) words) low u no-depths → Fits facts query relations places low s w
+fits-so facts query tokens words ids known relations places s w z u e low h p =
+    let n = length-take-le (s .words) words (z .words-inside) in
+    let m = length-take-le (s .elements) places (z .places-inside) in
+    let l : length (take (s .words) words) ≤ length low = omega (arith, n) in
+    let size = size-is facts query (take (s .tokens) tokens) (take (s .words) words) ids known (take (s .relations) relations) (take (s .elements) places) w (z .reading) ∙ m ∙ e in
+    record {
+      given =
+          subst (λ (k : ℕ). Given facts query (take (s .relations) relations) (take (s .elements) places) (take k low) w) n
+          (given-so facts query (take (s .tokens) tokens) (take (s .words) words) ids known (take (s .relations) relations) (take (s .elements) places) w (z .reading) u size low l p);
+      relations-inside = z .relations-inside;
+      places-inside = z .places-inside;
+      words-inside = h;
+    }
+
+-- what a caller has of the answer
+module _ (facts query : Text) (relations places low : List ℕ) where
+  pub record Held (s : Sizes) : Type 0 where
+    pub w : Accepted
+    pub fits : Fits facts query relations places low s w
+
+  pub held : {x : Texts} → Prepared facts query relations places low x → (s : Sizes) → x ≡ Texts.Accepted s → Held s
+  held (prepared {s = s′} w z) s e = let same : s′ ≡ s = cc in record { w = w; fits = subst (λ (v : Sizes). Fits facts query relations places low v w) same z }
+  held (refuses {q = q} h) s e = let z : _≡_ {A = ℕ} 0 1 = cc in absurd (omega arith)
+
+  pub not-held : {x : Texts} → Prepared facts query relations places low x → (q : Refusal) → x ≡ Texts.Refused q → accept document-01 facts query ≡ refused (number q) (place q)
+  not-held (prepared {s = s} w z) q e = let f : _≡_ {A = ℕ} 0 1 = cc in absurd (omega arith)
+  not-held (refuses {q = q′} h) q e = let same : q′ ≡ q = cc in subst (λ (v : Refusal). accept document-01 facts query ≡ refused (number v) (place v)) same h
+
+  -- the universe is small, and its size that of the array's part
+  pub few-held : (s : Sizes) (w : Accepted) → Fits facts query relations places low s w → s .elements ≤ 64
+  few-held s w z = omega (arith, length-take-le (s .elements) places (z .places-inside), z .given .few-places)
+
+  pub size-held : (s : Sizes) (w : Accepted) → Fits facts query relations places low s w → elements w ≡ s .elements
+  size-held s w z = z .given .size ∙ length-take-le (s .elements) places (z .places-inside)
+
+module _ (facts query : Text) (relations places low : List ℕ) (w : Accepted) (g : Given facts query relations places low w) where
+  pub too-short : (firsts : List ℕ) (scratch needed : ℕ) (store : List ℕ) (buffer : Text) (budget : ℕ) → LaidOut w firsts scratch needed → length store < needed
+      → RunMeets document-01 facts query budget store buffer (Refused (StoreShort needed)) store buffer
+  too-short firsts scratch needed store buffer budget l h =
+      subst (λ (n : ℕ). RunMeets document-01 facts query budget store buffer (Refused (StoreShort n)) store buffer) (sym (l .needed))
+      (run-short document-01 facts query budget store buffer w (g .accepted) (omega (arith, l .needed)))
+
+  pub ready : (u : ℕ) → u ≡ length places → (firsts : List ℕ) (scratch needed : ℕ) → LaidOut w firsts scratch needed → Ready facts query relations places firsts u w
+  ready u e firsts scratch needed l =
+      record { accepted = g .accepted; relations = g .relations-are; universe = g .universe-is; size = e ∙ sym (g .size); scratch = scratch; laid = l .laid }
+
+  pub begins : (u : ℕ) → u ≡ length places → (firsts : List ℕ) (scratch needed : ℕ) (store₀ store : List ℕ) → LaidOut w firsts scratch needed → needed ≤ length store₀
+      → store ≡ store-image w (loaded w) store₀ → Begun facts query low firsts places u scratch store₀ store w
+  begins u e firsts scratch needed store₀ store l long i =
+      record { accepted = g .accepted; size = g .size ∙ sym e; laid = l .laid; shows = g .shows; code = g .code; long = omega (arith, l .needed); image = i }

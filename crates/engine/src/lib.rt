@@ -11,8 +11,8 @@ ghost use Rattle.facts.specs.Words.{relations-of};
 ghost use Rattle.free.specs.Words.{Small};
 ghost use Rattle.coding.specs.Pass.{Passed};
 ghost use Rattle.layout.specs.Sizes.{LaidOut};
-ghost use Rattle.acceptance.specs.Reading.{Reading};
 ghost use Rattle.engine.specs.Begun.{Begun, no-depths};
+ghost use Rattle.engine.specs.Given.{Given, Prepared};
 use acceptance::Texts;
 use coding::lower;
 use definition::Checked;
@@ -57,17 +57,56 @@ fn passed<'a>(facts: &'a [u8], query: &'a [u8], relations: &[usize], u: u8) -> C
     }
 }
 
-// Whether the texts are accepted, and what their tables need.
-pub fn check<'a>(facts: &'a [u8], query: &'a [u8]) -> Checked
-    ensures { λ r. ⌜ CheckMeets document-01 (now (facts .entry)) (now (query .entry)) r ⌝ }
+// The words of the program, lowered.
+fn translate<'a>(
+    facts: &'a [u8],
+    query: &'a [u8],
+    tokens: &[u64],
+    words: &[u64],
+    ids: &[u64],
+    known: &[u64],
+    places: &[usize],
+    u: u8,
+    low: &mut [u64],
+)
+    requires { ⌜ (length (now tokens) ≤ 2048) × (length (now words) ≤ 2048) × (length (now low) ≡ 2048) ⌝ }
+    ensures { λ _. ⌜ Passed (now (facts .entry)) (now (query .entry)) (now (places .entry)) (now (tokens .entry)) (now (ids .entry)) (now (known .entry)) (now (words .entry)) (now (low .exit)) u no-depths ⌝ }
+{
+    let mut depths = [0u64; 2064];
+    let mut codes = [0u64; 2048];
+    let mut fr = [0u64; 2048];
+    lower(
+        facts,
+        query,
+        places,
+        tokens,
+        words,
+        ids,
+        known,
+        &mut depths,
+        &mut codes,
+        &mut fr,
+        low,
+        u,
+    );
+}
+
+// Both texts, and the words of an accepted query lowered. The work arrays stand here alone, so that they take no stack while it runs.
+fn read<'a>(
+    facts: &'a [u8],
+    query: &'a [u8],
+    relations: &mut [usize],
+    places: &mut [usize],
+    low: &mut [u64],
+) -> Texts
+    requires { ⌜ (length (now relations) ≡ 16) × (length (now places) ≡ 64) × (length (now low) ≡ 2048) ⌝ }
+    ensures { λ r. ⌜ Prepared (now (facts .entry)) (now (query .entry)) (now (relations .exit)) (now (places .exit)) (now (low .exit)) r ⌝ }
 {
     let mut tokens = [0u64; 2048];
     let mut words = [0u64; 2048];
     let mut ids = [0u64; 2048];
     let mut known = [0u64; 2064];
     let mut fr = [0u64; 2048];
-    let mut relations = [0usize; 16];
-    let mut places = [0usize; 64];
     match acceptance::accept(
         facts,
         query,
@@ -76,9 +115,35 @@ pub fn check<'a>(facts: &'a [u8], query: &'a [u8]) -> Checked
         &mut ids,
         &mut known,
         &mut fr,
-        &mut relations,
-        &mut places,
+        relations,
+        places,
     ) {
+        Texts::Refused(q) => Texts::Refused(q),
+        Texts::Accepted(s) => {
+            translate(
+                facts,
+                query,
+                &tokens[..s.tokens],
+                &words[..s.words],
+                &ids,
+                &known,
+                &places[..s.elements],
+                s.elements as u8,
+                low,
+            );
+            Texts::Accepted(s)
+        }
+    }
+}
+
+// Whether the texts are accepted, and what their tables need.
+pub fn check<'a>(facts: &'a [u8], query: &'a [u8]) -> Checked
+    ensures { λ r. ⌜ CheckMeets document-01 (now (facts .entry)) (now (query .entry)) r ⌝ }
+{
+    let mut relations = [0usize; 16];
+    let mut places = [0usize; 64];
+    let mut low = [0u64; 2048];
+    match read(facts, query, &mut relations, &mut places, &mut low) {
         Texts::Refused(q) => not_passed(facts, query, q),
         Texts::Accepted(s) => passed(facts, query, &relations[..s.relations], s.elements as u8),
     }
@@ -132,63 +197,24 @@ fn steps<'a>(
     })
 }
 
-// The words of the program, lowered.
-fn translate<'a>(
-    facts: &'a [u8],
-    query: &'a [u8],
-    tokens: &[u64],
-    words: &[u64],
-    ids: &[u64],
-    known: &[u64],
-    places: &[usize],
-    u: u8,
-    low: &mut [u64],
-)
-    requires { ⌜ (length (now tokens) ≤ 2048) × (length (now words) ≤ 2048) × (length (now low) ≡ 2048) ⌝ }
-    ensures { λ _. ⌜ Passed (now (facts .entry)) (now (query .entry)) (now (places .entry)) (now (tokens .entry)) (now (ids .entry)) (now (known .entry)) (now (words .entry)) (now (low .exit)) u no-depths ⌝ }
-{
-    let mut depths = [0u64; 2064];
-    let mut codes = [0u64; 2048];
-    let mut fr = [0u64; 2048];
-    lower(
-        facts,
-        query,
-        places,
-        tokens,
-        words,
-        ids,
-        known,
-        &mut depths,
-        &mut codes,
-        &mut fr,
-        low,
-        u,
-    );
-}
-
-// The run of accepted texts, whose tables have their places in the store: the words lowered, the facts loaded, then step by step.
+// The run of accepted texts, whose tables have their places in the store: the facts loaded, then step by step.
 fn from_facts<'a>(
     facts: &'a [u8],
     query: &'a [u8],
-    tokens: &[u64],
-    words: &[u64],
-    ids: &[u64],
-    known: &[u64],
     relations: &[usize],
     places: &[usize],
+    low: &[u64],
     firsts: &[u64],
     room: Room,
-    low: &mut [u64],
     budget: u32,
     store: &mut [u64],
     output: &mut [u8],
 ) -> Ran
-    requires { ⌜ (length (now tokens) ≤ 2048) × (length (now words) ≤ 2048) × (length (now places) ≤ 64) × (length (now low) ≡ 2048) ⌝ }
-    requires { ⌜ (room .words ≤ length (now store)) × (length (now facts) ≤ FACT-BYTES) ⌝ }
-    ensures { λ r. ⌜ ((w : Accepted) → Reading (now (facts .entry)) (now (query .entry)) (now (tokens .entry)) (now (words .entry)) (now (ids .entry)) (now (known .entry)) (now (relations .entry)) (now (places .entry)) w → LaidOut w (now (firsts .entry)) (room .scratch) (room .words) → RunMeets document-01 (now (facts .entry)) (now (query .entry)) budget (now (store .entry)) (now (output .entry)) r (now (store .exit)) (now (output .exit))) ⌝ }
+    requires { ⌜ (length (now places) ≤ 64) × (length (now facts) ≤ FACT-BYTES) ⌝ }
+    requires { ⌜ room .words ≤ length (now store) ⌝ }
+    ensures { λ r. ⌜ ((w : Accepted) → Given (now (facts .entry)) (now (query .entry)) (now (relations .entry)) (now (places .entry)) (now (low .entry)) w → LaidOut w (now (firsts .entry)) (room .scratch) (room .words) → RunMeets document-01 (now (facts .entry)) (now (query .entry)) budget (now (store .entry)) (now (output .entry)) r (now (store .exit)) (now (output .exit))) ⌝ }
 {
     let u = places.len() as u8;
-    translate(facts, query, tokens, words, ids, known, places, u, low);
     load_facts(
         facts,
         query,
@@ -202,7 +228,7 @@ fn from_facts<'a>(
     steps(
         facts,
         query,
-        &low[..words.len()],
+        low,
         firsts,
         places,
         u,
@@ -217,20 +243,15 @@ fn from_facts<'a>(
 fn with_texts<'a>(
     facts: &'a [u8],
     query: &'a [u8],
-    tokens: &[u64],
-    words: &[u64],
-    ids: &[u64],
-    known: &[u64],
     relations: &[usize],
     places: &[usize],
-    low: &mut [u64],
+    low: &[u64],
     budget: u32,
     store: &mut [u64],
     output: &mut [u8],
 ) -> Ran
-    requires { ⌜ (length (now tokens) ≤ 2048) × (length (now words) ≤ 2048) × (length (now low) ≡ 2048) ⌝ }
     requires { ⌜ (length (now relations) ≤ 16) × (length (now places) ≤ 64) × (length (now facts) ≤ FACT-BYTES) ⌝ }
-    ensures { λ r. ⌜ ((w : Accepted) → Reading (now (facts .entry)) (now (query .entry)) (now (tokens .entry)) (now (words .entry)) (now (ids .entry)) (now (known .entry)) (now (relations .entry)) (now (places .entry)) w → RunMeets document-01 (now (facts .entry)) (now (query .entry)) budget (now (store .entry)) (now (output .entry)) r (now (store .exit)) (now (output .exit))) ⌝ }
+    ensures { λ r. ⌜ ((w : Accepted) → Given (now (facts .entry)) (now (query .entry)) (now (relations .entry)) (now (places .entry)) (now (low .entry)) w → RunMeets document-01 (now (facts .entry)) (now (query .entry)) budget (now (store .entry)) (now (output .entry)) r (now (store .exit)) (now (output .exit))) ⌝ }
 {
     let mut firsts = [0u64; 32];
     let room = lay(relations, places.len() as u8, &mut firsts);
@@ -240,23 +261,18 @@ fn with_texts<'a>(
     from_facts(
         facts,
         query,
-        tokens,
-        words,
-        ids,
-        known,
         relations,
         places,
+        low,
         &firsts,
         room,
-        low,
         budget,
         store,
         output,
     )
 }
 
-// Runs the query over the facts in the lent store and output, within the budget of steps. The array that the check of free attributes
-// is done with takes the lowered words, to spare stack.
+// Runs the query over the facts in the lent store and output, within the budget of steps.
 pub fn run<'a>(
     facts: &'a [u8],
     query: &'a [u8],
@@ -266,35 +282,17 @@ pub fn run<'a>(
 ) -> Ran
     ensures { λ r. ⌜ RunMeets document-01 (now (facts .entry)) (now (query .entry)) budget (now (store .entry)) (now (output .entry)) r (now (store .exit)) (now (output .exit)) ⌝ }
 {
-    let mut tokens = [0u64; 2048];
-    let mut words = [0u64; 2048];
-    let mut ids = [0u64; 2048];
-    let mut known = [0u64; 2064];
-    let mut fr = [0u64; 2048];
     let mut relations = [0usize; 16];
     let mut places = [0usize; 64];
-    match acceptance::accept(
-        facts,
-        query,
-        &mut tokens,
-        &mut words,
-        &mut ids,
-        &mut known,
-        &mut fr,
-        &mut relations,
-        &mut places,
-    ) {
+    let mut low = [0u64; 2048];
+    match read(facts, query, &mut relations, &mut places, &mut low) {
         Texts::Refused(q) => Ran::Refused(q),
         Texts::Accepted(s) => with_texts(
             facts,
             query,
-            &tokens[..s.tokens],
-            &words[..s.words],
-            &ids,
-            &known,
             &relations[..s.relations],
             &places[..s.elements],
-            &mut fr,
+            &low[..s.words],
             budget,
             store,
             output,
