@@ -1,7 +1,7 @@
 /* relcalc: RML queries over RSF facts, four calls. Link librelcalc_c.a (rt staticlib relcalc_c).
 
    Each call answers from what it is lent and from nothing else. It takes any bytes, allocates nothing, keeps nothing, opens
-   nothing and always returns. Calls may run at the same time on several threads. One call needs less than 320 KiB of stack.
+   nothing and always returns. Calls may run at the same time on several threads. One call needs less than 256 KiB of stack.
 
    What a caller owes, and no call can test:
    - Each pointer is not null and aligned (a store at 8 bytes), also where its length is 0. Then nothing is read or written

@@ -159,16 +159,24 @@ static size_t stack_used(char *query)
 
 static void small_stack(void)
 {
-    static char brackets[100], chain[2200];
+    static char brackets[100], chain[2200], compared[2400];
     sprintf(brackets, "PRINT %.*sP()%.*s;", 32, "((((((((((((((((((((((((((((((((", 32, "))))))))))))))))))))))))))))))))");
     char *at = chain + sprintf(chain, "PRINT ");
     for (int i = 0; i < 510; i++)
         at += sprintf(at, "P()&");
     sprintf(at, "P();");
-    size_t deep = stack_used(brackets), lengthy = stack_used(chain);
-    printf("stack: %zu bytes at 32 levels, %zu in the longest chain of &\n", deep, lengthy);
+    at = compared + sprintf(compared, "PRINT %.*s", 32, "((((((((((((((((((((((((((((((((");
+    for (int i = 0; i < 462; i++)
+        at += sprintf(at, "P()&");
+    at += sprintf(at, "P()");
+    for (int i = 0; i < 32; i++)
+        at += sprintf(at, "<=P())");
+    sprintf(at, ";");
+    size_t deep = stack_used(brackets), lengthy = stack_used(chain), nested = stack_used(compared);
+    printf("stack: %zu bytes at 32 levels, %zu in the longest chain of &, %zu in one within 32 comparisons\n", deep, lengthy, nested);
     EXPECT(deep < 256 * 1024);
     EXPECT(lengthy < 256 * 1024);
+    EXPECT(nested < 256 * 1024);
 }
 
 int main(void)
