@@ -11,7 +11,7 @@ use lib.Seq.{length-take-le}
 use Rattle.definition.specs.Text.{Text, some-of}
 use Rattle.definition.specs.Limits.{FACT-BYTES, CHAIN-BYTES, document-01}
 use Rattle.definition.specs.Answer.{Answer, ok, refused, _>>_, refuse-if}
-use Rattle.definition.specs.Facts.{Facts, arities, read-facts}
+use Rattle.definition.specs.Facts.{Facts, arities, read-facts, Ascending}
 use Rattle.definition.specs.Calls.{Asked, ChainMeets, numbers-of, chain-asked, chain-meets}
 use Rattle.definition.specs.declared.Chained.{Chained}
 use Rattle.definition.specs.declared.Chained.the-variants.{Refused as not-chained}
@@ -19,7 +19,6 @@ use Rattle.definition.specs.declared.Refusal.{Refusal}
 use Rattle.definition.specs.declared.Refusal.the-variants.{NotInFacts, BufferShort}
 use Rattle.definition.specs.Meaning.{numbers}
 use Rattle.definition.proofs.AcceptLaws.{was-ok, not-refused, facts-universe}
-use Rattle.definition.proofs.UniverseLaws.{Ascending}
 use Rattle.parts.specs.Entries.{texts-of}
 use Rattle.parts.proofs.HeldLaws.{held-length, held-take}
 use Rattle.facts.specs.Reading.{all-facts, Meets}

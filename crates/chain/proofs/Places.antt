@@ -9,9 +9,9 @@ use borrow.Author.Tests.{eq-eqb, ne-eqb}
 use lib.Dec.{T, eqb}
 use lib.ListN.{length, getD}
 use Rattle.definition.specs.Text.{Text, same, span, some-of}
-use Rattle.definition.specs.Facts.{arities}
+use Rattle.definition.specs.Facts.{arities, Ascending}
 use Rattle.definition.specs.Meaning.{numbers}
-use Rattle.definition.proofs.UniverseLaws.{Ascending, number-of}
+use Rattle.definition.proofs.UniverseLaws.{number-of}
 use Rattle.parts.specs.Packed.{tag-of, text-of}
 use Rattle.parts.specs.Entries.{texts-of}
 use Rattle.parts.proofs.HeldLaws.{length-texts}

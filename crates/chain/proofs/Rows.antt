@@ -11,11 +11,10 @@ use lib.ListN.{length, getD, set, take, drop, replicate, length-map}
 use lib.Seq.{length-take-le}
 use Rattle.definition.specs.Text.{Text, same, some-of}
 use Rattle.definition.specs.Limits.{ARITY}
-use Rattle.definition.specs.Facts.{Facts, Fact, Relation}
+use Rattle.definition.specs.Facts.{Facts, Fact, Relation, Ascending}
 use Rattle.definition.specs.Tables.{Tuple, table, table-words}
 use Rattle.definition.specs.Calls.{is-element, is-pair}
 use Rattle.definition.proofs.TableLaws.{Below, length-table}
-use Rattle.definition.proofs.UniverseLaws.{Ascending}
 use Rattle.bits.specs.Bits.{with-bit}
 use Rattle.parts.specs.Entries.{texts-of}
 use Rattle.parts.proofs.HeldLaws.{length-texts}

@@ -14,7 +14,7 @@ use Rattle.definition.specs.Accept.{elements}
 use Rattle.definition.specs.Meaning.{numbers}
 use Rattle.definition.proofs.BoolLaws.{is-true}
 use Rattle.definition.proofs.RelationLaws.{place-of}
-use Rattle.definition.proofs.UniverseLaws.{Ascending}
+use Rattle.definition.specs.Facts.{Ascending}
 use Rattle.words.specs.Fields.{word, ATTRIBUTE}
 use Rattle.words.specs.Raw.{number}
 use Rattle.words.specs.Tokens.{OwnName, OwnString}

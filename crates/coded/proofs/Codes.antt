@@ -10,12 +10,12 @@ use lib.Dec.{T, ltb}
 use lib.ListN.{length, getD}
 use Rattle.definition.specs.Text.{Text, same, member, some-of, span}
 use Rattle.definition.specs.Calls.{part-text}
-use Rattle.definition.specs.Facts.{Relation}
+use Rattle.definition.specs.Facts.{Relation, Ascending}
 use Rattle.definition.specs.Meaning.{numbers}
 use Rattle.definition.specs.Names.{Known, nothing, attribute, variable, open-variable, relation, Kinds, is-variable, numbered}
 use Rattle.definition.proofs.RelationLaws.{place-of}
 use Rattle.definition.proofs.NameLaws.{as-relation, Numbered}
-use Rattle.definition.proofs.UniverseLaws.{Ascending, number-of, no-number}
+use Rattle.definition.proofs.UniverseLaws.{number-of, no-number}
 use Rattle.kinds.specs.Walk.{known-of}
 use Rattle.kinds.proofs.Meaning.{known-relation}
 use Rattle.parts.specs.Packed.{text-of}

@@ -11,7 +11,7 @@ use Rattle.definition.specs.Names.{Kinds, variables, attribute}
 use Rattle.definition.specs.Accept.{Accepted, elements}
 use Rattle.definition.proofs.RelationLaws.{no-relation}
 use Rattle.definition.proofs.NameLaws.{Numbered}
-use Rattle.definition.proofs.UniverseLaws.{Ascending}
+use Rattle.definition.specs.Facts.{Ascending}
 use Rattle.words.specs.Raw.{number}
 use Rattle.words.specs.Tokens.{OwnName}
 use Rattle.parts.specs.Packed.{text-of}

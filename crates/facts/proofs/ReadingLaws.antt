@@ -11,10 +11,9 @@ use lib.Seq.{drop-cons, drop-drop}
 use Rattle.definition.specs.Text.{Text, ascii, starts, span, gather}
 use Rattle.definition.specs.Limits.{Limits}
 use Rattle.definition.specs.Answer.{Answer, ok, refusal}
-use Rattle.definition.specs.Facts.{Line, Fact, Facts, cut, lines, fact-lines, read-lines}
+use Rattle.definition.specs.Facts.{Line, Fact, Facts, cut, lines, fact-lines, read-lines, Ascending}
 use Rattle.definition.specs.declared.Refusal.{Refusal}
 use Rattle.definition.proofs.TextLaws.{cut-line, later-lines, no-end}
-use Rattle.definition.proofs.UniverseLaws.{Ascending}
 use Rattle.parts.specs.Entries.{Held, note-all, enter-all, texts-of}
 use Rattle.parts.proofs.HeldLaws.{enter-all-ascending, held-take, held-length, held-then, note-all-append, note-all-longer, enter-all-append, enter-all-longer}
 use Rattle.facts.specs.declared.Counts.{Counts}

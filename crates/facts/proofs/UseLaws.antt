@@ -12,13 +12,12 @@ use borrow.Author.Tests.{le-ltb, lt-ltb}
 use Rattle.definition.specs.Text.{Text}
 use Rattle.definition.specs.Limits.{Limits, ARITY, WORD-BYTES}
 use Rattle.definition.specs.Answer.{Answer, ok, refused}
-use Rattle.definition.specs.Facts.{Element, insert, use-elements}
+use Rattle.definition.specs.Facts.{Element, insert, use-elements, Ascending}
 use Rattle.definition.specs.Calls.{part-text}
 use Rattle.parts.specs.Packed.{pack, text-of, part-of}
 use Rattle.parts.specs.Entries.{enter, enter-all, texts-of, in-front, count-in, Held}
 use Rattle.parts.specs.declared.Entered.the-variants.{Count, Full}
 use Rattle.parts.proofs.PackLaws.{pack-part}
-use Rattle.definition.proofs.UniverseLaws.{Ascending}
 use Rattle.parts.proofs.HeldLaws.{length-texts, texts-enter, enter-all-ascending, enter-longer, enter-all-append, held-first, held-take, held-length, held-then, held-front, no-room}
 use Rattle.facts.specs.declared.Item.{Item}
 use Rattle.facts.specs.declared.FactLine.{FactLine}

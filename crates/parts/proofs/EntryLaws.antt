@@ -12,7 +12,8 @@ use lib.Seq.{drop-cons, take-suc, set-split, length-take-le, drop-append-le, tak
 use borrow.Author.Tests.{le-ltb, lt-ltb}
 use Rattle.definition.specs.Text.{Text, same, earlier, span}
 use Rattle.definition.proofs.MeaningLaws.{same-eq, same-refl}
-use Rattle.definition.proofs.UniverseLaws.{Ascending, earlier-not-same, earlier-trans}
+use Rattle.definition.specs.Facts.{Ascending}
+use Rattle.definition.proofs.UniverseLaws.{earlier-not-same, earlier-trans}
 use Rattle.texts.specs.Orders.{order}
 use Rattle.texts.specs.declared.Order.the-variants.{Before, Same, After}
 use Rattle.texts.proofs.OrderLaws.{is-same, is-before, is-after}

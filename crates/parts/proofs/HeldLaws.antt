@@ -9,9 +9,9 @@ use lib.ListN.{length, getD, take, drop, set, length-append, length-drop, take-a
 use lib.Seq.{take-at, drop-at, drop-append-add, drop-drop, set-at, drop-cons, length-take-le}
 use borrow.Author.Tests.{le-ltb, lt-ltb, ltb-false, ltb-true}
 use Rattle.definition.specs.Text.{Text, same, earlier, span}
-use Rattle.definition.specs.Facts.{insert}
+use Rattle.definition.specs.Facts.{insert, Ascending}
 use Rattle.definition.specs.Calls.{Part, part-text}
-use Rattle.definition.proofs.UniverseLaws.{Ascending, insert-ascending}
+use Rattle.definition.proofs.UniverseLaws.{insert-ascending}
 use Rattle.parts.specs.Packed.{text-of}
 use Rattle.parts.specs.Entries.{quoted-too, index, enter, enter-all, note, note-all, texts-of, in-front, count-in, Held}
 use Rattle.parts.specs.declared.Entered.{Entered}

@@ -4,7 +4,7 @@ ghost use mathlib.Core.List.{_∷_, _++_};
 ghost use Prim.Native.Nat.{ℕ, _+_, _≤_, _<_};
 ghost use lib.ListN.{length, getD, take, drop};
 ghost use Rattle.parts.specs.Packed.{pack, text-of};
-ghost use Rattle.definition.proofs.UniverseLaws.{Ascending};
+ghost use Rattle.definition.specs.Facts.{Ascending};
 ghost use Rattle.parts.specs.Entries.{quoted-too, index, enter, in-front, count-in, texts-of};
 ghost use Rattle.parts.specs.Places.{entered-at, PlaceWithin, Finds};
 use texts::Order;

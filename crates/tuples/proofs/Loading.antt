@@ -10,7 +10,7 @@ use lib.Dec.{T, eqb}
 use lib.ListN.{length, getD, set, take, drop, replicate, length-map, replicate-append-replicate}
 use lib.Seq.{sets}
 use Rattle.definition.specs.Text.{Text, same, some-of, gather}
-use Rattle.definition.specs.Facts.{Element, Fact, Relation}
+use Rattle.definition.specs.Facts.{Element, Fact, Relation, Ascending}
 use Rattle.definition.specs.Tables.{Tuple, table, table-words}
 use Rattle.definition.specs.Accept.{Accepted, elements, relation-words}
 use Rattle.definition.specs.Meaning.{Tables}
@@ -21,7 +21,7 @@ use Rattle.definition.proofs.TableLaws.{Below, length-table}
 use Rattle.definition.proofs.MeaningLaws.{same-refl}
 use Rattle.definition.proofs.RunLaws.{Shaped, none as no-table, one as one-table}
 use Rattle.definition.proofs.RelationLaws.{words-before}
-use Rattle.definition.proofs.UniverseLaws.{Ascending, number-of}
+use Rattle.definition.proofs.UniverseLaws.{number-of}
 use Rattle.tuples.specs.Places.{with-tuple}
 use Rattle.tuples.proofs.Tables.{table-same, table-none, insert-table, length-with}
 use Rattle.tuples.proofs.Images.{image-part, image-sets}

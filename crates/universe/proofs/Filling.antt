@@ -12,7 +12,7 @@ use Rattle.definition.specs.Limits.{Limits, document-01}
 use Rattle.definition.specs.Answer.{Answer, ok}
 use Rattle.definition.specs.Token.{Token}
 use Rattle.definition.specs.Syntax.{Program}
-use Rattle.definition.specs.Facts.{Element, Fact, Facts, read-facts, use-elements}
+use Rattle.definition.specs.Facts.{Element, Fact, Facts, read-facts, use-elements, Ascending}
 use Rattle.definition.specs.Names.{left-strings}
 use Rattle.definition.specs.Accept.{Accepted, accept, read-query, elements}
 use Rattle.definition.specs.Calls.{Part, no-part, first-part, element-part}
@@ -20,7 +20,6 @@ use Rattle.definition.specs.Print.{is-quoted}
 use Rattle.definition.proofs.AcceptLaws as AcceptLaws
 use Rattle.definition.proofs.AcceptLaws.{ok-injective}
 use Rattle.definition.proofs.PlaceLaws.{EachElement, no-element, EachFact, no-fact, a-fact, each-append, accepted-facts}
-use Rattle.definition.proofs.UniverseLaws.{Ascending}
 use Rattle.parts.specs.Packed.{tag-of, part-of, text-of}
 use Rattle.parts.specs.Entries.{enter-all, texts-of}
 use Rattle.parts.proofs.HeldLaws.{length-texts, held-take, enter-all-ascending}

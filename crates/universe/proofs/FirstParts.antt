@@ -12,7 +12,8 @@ use Rattle.definition.specs.Text.{if_then_else_, Text, same, earlier, member, s
 use Rattle.definition.specs.Calls.{Part, part-text}
 use Rattle.definition.proofs.BoolLaws.{is-true}
 use Rattle.definition.proofs.MeaningLaws.{same-eq, same-refl}
-use Rattle.definition.proofs.UniverseLaws.{Ascending, earlier-not-same, earlier-trans}
+use Rattle.definition.specs.Facts.{Ascending}
+use Rattle.definition.proofs.UniverseLaws.{earlier-not-same, earlier-trans}
 use Rattle.parts.specs.Packed.{tag-of, part-of, text-of}
 use Rattle.parts.specs.Entries.{quoted-too, enter, enter-all, texts-of}
 use Rattle.parts.proofs.PackLaws.{quoted-part}
