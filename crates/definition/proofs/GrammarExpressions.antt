@@ -16,7 +16,7 @@ use lib.Dec.{leb, eqb}
 use borrow.Author.Tests.{ne-eqb}
 use Rattle.definition.proofs.BoolLaws.{apart}
 use Rattle.definition.proofs.GrammarComplete.{Halts, on-not}
-use Rattle.definition.proofs.GrammarReads.{only-key, neither, Next, nothing, a-name, a-string, a-sign, a-key, next, Reads, Fails, Rule, read!, fail!, Stands, _▸_, _▹_, stop!, done!, empty!, none!, sign!, no-sign!, unit-eq, like-eq, start-eq, via, goes, on-goes, on-halts}
+use Rattle.definition.proofs.GrammarReads.{Begins, begins-halts, begins-as, Takes, keys-alone, not-key, only-key, only-sign, neither, Next, nothing, a-name, a-string, a-sign, a-key, next, Reads, Fails, Rule, read!, fail!, Stands, _▸_, _▹_, stop!, done!, empty!, none!, sign!, no-sign!, unit-eq, like-eq, via, goes, on-goes, on-halts}
 use Rattle.definition.specs.Grammar.{Tree, Term, Terms, MoreTerms, Expression, Comparison, Implication, Consequent, Disjunction, MoreOr, Conjunction, MoreAnd, Negation, Primary, Quantified, flat}
 use Rattle.definition.specs.Grammar.{no-terms, terms, end-terms, more-terms, term-name, term-string, term-any, expression, no-comparison, comparison, implication, no-consequent, implies, iff, disjunction, end-or, more-or, conjunction, end-and, more-and, negation, primary, group, ex, fa, tc, tcfast, atom, true-atom, false-atom, sign-before, sign-between, one-more-attribute, quantified-body}
 use Rattle.definition.specs.Reader.{Symbol, phrase, fixed, identifier, any-sign, after-name, after-quantified, level-end, on-key, wrap, levels-open, as-negation, as-body, as-quantified-rest, arguments, compared-with, quantified-more, primary-of, quantified-of, map-reading, read}
@@ -58,23 +58,21 @@ term-halts (key k ∷ l) h = λ s. on-halts k UNDERSCORE _ _ false (λ e. refl) 
 pub no-term! : {d : ℕ} {ts : List Terminal} → begins-term (next ts) ≡ false → Fails d (phrase Term ∷ []) ts 10 ts
 no-term! {ts = ts} h = none! (phrase Term) ts refl (term-halts ts h)
 
-terms-halts : (ts : List Terminal) → Halts (phrase Term) ts → Halts (phrase Terms) ts
-unfolding wrap
-terms-halts [] h = tt
-terms-halts (t ∷ l) h = λ s. ap (wrap _) (h (phrase MoreTerms ∷ s))
+term-takes : (ts : List Terminal) → begins-term (next ts) ≡ true → Takes (phrase Term) ts
+term-takes [] h = apart (sym h)
+term-takes (name x ∷ l) h = λ s. goes _ _
+term-takes (string x ∷ l) h = λ s. goes _ _
+term-takes (sign g ∷ l) h = absurd (apart (sym h))
+term-takes (key k ∷ l) h = λ s. on-goes k UNDERSCORE _ _ _ false (λ e. absurd (apart (sym e))) h
+
+terms-begin : Begins (phrase Terms) (phrase Term) (phrase MoreTerms ∷ []) (λ fs. terms (fs .0) (fs .1 .0))
+terms-begin = record { is = λ t s. refl }
 
 pub no-terms! : {d : ℕ} {ts : List Terminal} → begins-term (next ts) ≡ false → Reads d (phrase Terms ∷ []) ts (no-terms, tt) ts
-no-terms! {ts = ts} h = empty! (phrase Terms) ts refl (terms-halts ts (term-halts ts h))
+no-terms! {ts = ts} h = empty! (phrase Terms) ts refl (begins-halts terms-begin ts (term-halts ts h))
 
 pub terms-rule : {ts : List Terminal} → begins-term (next ts) ≡ true → Stands (phrase Terms) (phrase Term ∷ phrase MoreTerms ∷ []) (λ fs. terms (fs .0) (fs .1 .0)) ts
-terms-rule {ts} h = record { is = λ s. at ts h s }
-  where
-    at : (ts : List Terminal) → begins-term (next ts) ≡ true → (s : List Symbol) → read ts (phrase Terms ∷ s) ≡ map-reading (λ fs. (terms (fs .0) (fs .1 .0), fs .1 .1)) (read ts (phrase Term ∷ phrase MoreTerms ∷ s))
-    at [] h s = absurd (apart (sym h))
-    at (name x ∷ l) h s = start-eq (phrase Terms) (phrase Term) s (phrase MoreTerms ∷ s) _ (name x) refl (goes _ _) l
-    at (string x ∷ l) h s = start-eq (phrase Terms) (phrase Term) s (phrase MoreTerms ∷ s) _ (string x) refl (goes _ _) l
-    at (sign g ∷ l) h s = absurd (apart (sym h))
-    at (key k ∷ l) h s = start-eq (phrase Terms) (phrase Term) s (phrase MoreTerms ∷ s) _ (key k) refl (on-goes k UNDERSCORE _ _ _ false (λ e. absurd (apart (sym e))) h) l
+terms-rule {ts} h = begins-as terms-begin ts (term-takes ts h)
 
 pub more-terms-rule : Rule (phrase MoreTerms) (key COMMA) (phrase Term ∷ phrase MoreTerms ∷ []) (λ fs. more-terms (fs .0) (fs .1 .0))
 unfolding on-key
@@ -100,14 +98,7 @@ pub comparison-rule : {g : Sign} → Rule (phrase Comparison) (sign g) (phrase I
 comparison-rule = record { is = λ s. refl }
 
 pub no-comparison! : {d : ℕ} {ts : List Terminal} → ((g : Sign) → next ts ≡ a-sign g → ⊥) → Reads d (phrase Comparison ∷ []) ts (no-comparison, tt) ts
-no-comparison! {ts = ts} h = empty! (phrase Comparison) ts refl (at ts h)
-  where
-    at : (ts : List Terminal) → ((g : Sign) → next ts ≡ a-sign g → ⊥) → Halts (phrase Comparison) ts
-    at [] h = tt
-    at (name x ∷ l) h = λ s. refl
-    at (string x ∷ l) h = λ s. refl
-    at (sign g ∷ l) h = absurd (h g refl)
-    at (key k ∷ l) h = λ s. refl
+no-comparison! {ts = ts} h = empty! (phrase Comparison) ts refl (only-sign (phrase Comparison) (λ i s. refl) (λ i s. refl) (λ k s. refl) ts h)
 
 pub implies-rule : Rule (phrase Consequent) (key IMPLIES) (phrase Disjunction ∷ []) (λ fs. implies (fs .0))
 unfolding on-key
@@ -118,14 +109,9 @@ unfolding on-key
 iff-rule = record { is = λ s. refl }
 
 pub no-consequent! : {d : ℕ} {ts : List Terminal} → (next ts ≡ a-key IMPLIES → ⊥) → (next ts ≡ a-key IFF → ⊥) → Reads d (phrase Consequent ∷ []) ts (no-consequent, tt) ts
-no-consequent! {ts = ts} h i = empty! (phrase Consequent) ts refl (at ts h i)
-  where
-    at : (ts : List Terminal) → (next ts ≡ a-key IMPLIES → ⊥) → (next ts ≡ a-key IFF → ⊥) → Halts (phrase Consequent) ts
-    at [] h i = tt
-    at (name x ∷ l) h i = λ s. refl
-    at (string x ∷ l) h i = λ s. refl
-    at (sign g ∷ l) h i = λ s. refl
-    at (key k ∷ l) h i = λ s. on-not k IMPLIES _ _ (ne-eqb k IMPLIES (λ e. h (ap a-key e))) ∙ on-not k IFF _ _ (ne-eqb k IFF (λ e. i (ap a-key e)))
+no-consequent! {ts = ts} h i =
+    empty! (phrase Consequent) ts refl
+    (keys-alone (phrase Consequent) (λ i s. refl) (λ i s. refl) (λ g s. refl) ts (λ k e s. on-not k IMPLIES _ _ (not-key e h) ∙ on-not k IFF _ _ (not-key e i)))
 
 pub more-or-rule : Rule (phrase MoreOr) (key OR) (phrase Conjunction ∷ phrase MoreOr ∷ []) (λ fs. more-or (fs .0) (fs .1 .0))
 unfolding on-key
@@ -247,16 +233,16 @@ between-fails! (term-name x) k e i f = fail! name-rule k e (stop! (fail! compare
 between-fails! (term-string x) k e i f = fail! string-rule k e (sign! k i ▹ f)
 between-fails! term-any k e i f = fail! any-rule k e (sign! k i ▹ f)
 
+pub after-name-halts : (l : List Terminal) → (next l ≡ a-key LPAREN → ⊥) → ((g : Sign) → next l ≡ a-sign g → ⊥) → Halts after-name l
+after-name-halts [] h i = tt
+after-name-halts (name x ∷ l) h i = λ s. refl
+after-name-halts (string x ∷ l) h i = λ s. refl
+after-name-halts (sign g ∷ l) h i = absurd (i g refl)
+after-name-halts (key k ∷ l) h i = λ s. on-not k LPAREN _ _ (ne-eqb k LPAREN (λ e. h (ap a-key e)))
+
 -- a term with neither behind it; after a string or "_" a bracket is no better
 pub name-alone! : {d x : ℕ} {ts l : List Terminal} → d ≤ 32 → ts ≡ name x ∷ l → (next l ≡ a-key LPAREN → ⊥) → ((g : Sign) → next l ≡ a-sign g → ⊥) → Fails d (phrase Primary ∷ []) ts 10 l
-name-alone! {l = l} k e h i = fail! name-rule k e (stop! (none! after-name l refl (at l h i)))
-  where
-    at : (l : List Terminal) → (next l ≡ a-key LPAREN → ⊥) → ((g : Sign) → next l ≡ a-sign g → ⊥) → Halts after-name l
-    at [] h i = tt
-    at (name x ∷ l) h i = λ s. refl
-    at (string x ∷ l) h i = λ s. refl
-    at (sign g ∷ l) h i = absurd (i g refl)
-    at (key k ∷ l) h i = λ s. on-not k LPAREN _ _ (ne-eqb k LPAREN (λ e. h (ap a-key e)))
+name-alone! {l = l} k e h i = fail! name-rule k e (stop! (none! after-name l refl (after-name-halts l h i)))
 
 pub string-alone! : {d x : ℕ} {ts l : List Terminal} → d ≤ 32 → ts ≡ string x ∷ l → ((g : Sign) → next l ≡ a-sign g → ⊥) → Fails d (phrase Primary ∷ []) ts 10 l
 string-alone! k e h = fail! string-rule k e (stop! (no-sign! h))

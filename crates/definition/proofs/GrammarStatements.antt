@@ -14,11 +14,11 @@ use lib.Dec.{leb, eqb}
 use borrow.Author.Tests.{ne-eqb}
 use Rattle.definition.proofs.BoolLaws.{apart}
 use Rattle.definition.proofs.GrammarComplete.{Halts, on-not}
-use Rattle.definition.proofs.GrammarReads.{only-key, neither, Next, nothing, a-name, a-string, a-sign, a-key, next, Reads, Fails, Rule, read!, Stands, empty!, none!, unit-eq, like-eq, start-eq, via, goes, on-goes, on-halts}
-use Rattle.definition.proofs.GrammarExpressions.{rests}
+use Rattle.definition.proofs.GrammarReads.{Begins, begins-halts, begins-as, Takes, keys-alone, not-key, only-key, sign-halts, neither, Next, nothing, a-name, a-string, a-sign, a-key, next, Reads, Fails, Rule, read!, Stands, empty!, none!, unit-eq, like-eq, start-eq, via, goes, on-goes, on-halts}
+use Rattle.definition.proofs.GrammarExpressions.{rests, after-name-halts}
 use Rattle.definition.specs.Grammar.{Program, MoreStatements, Statement, Block, Else, Lefts, MoreLefts, Left, MoreItems, Item, Word, Term, Expression}
 use Rattle.definition.specs.Grammar.{program, end-statements, more-statements, conditional, while-loop, for-loop, nested-block, print-statement, block, no-else, else-block, no-lefts, lefts, end-lefts, more-lefts, left-name, left-string, end-items, more-items, item-expression, item-labelled, item-word, item-endl, word-name, word-string}
-use Rattle.definition.specs.Reader.{Symbol, phrase, fixed, identifier, any-sign, after-name, after-item-name, after-item-string, after-left, level-end, on-key, wrap, levels-open, as-item, as-item-name-rest, as-item-string-rest, left-becomes, left-alone, item-of, string-item-of, statement-of, map-reading, read}
+use Rattle.definition.specs.Reader.{Symbol, phrase, fixed, identifier, any-sign, after-name, after-item-name, after-item-string, after-left, level-end, rule, halt, item-name-rest, item-string-rest, on-key, wrap, levels-open, as-item, as-item-name-rest, as-item-string-rest, left-becomes, left-alone, item-of, string-item-of, statement-of, map-reading, read}
 use Rattle.definition.specs.Token.{Terminal, name, string, sign, key, Sign, LPAREN, RPAREN, LBRACE, RBRACE, LBRACKET, RBRACKET, COMMA, SEMICOLON, BECOMES, IF, ELSE, WHILE, FOR, IN, PRINT, ENDL}
 
 -- an identifier or a string: a left-hand term, or s of an item
@@ -36,6 +36,13 @@ not-names-string a-string a b = absurd (b refl)
 not-names-string (a-sign g) a b = refl
 not-names-string (a-key k) a b = refl
 
+neither-halts : (x : Symbol) → ((g : Sign) (s : List Symbol) → rule x (sign g) s ≡ halt) → ((k : ℕ) (s : List Symbol) → rule x (key k) s ≡ halt) → (ts : List Terminal) → names-string (next ts) ≡ false → Halts x ts
+neither-halts x a b [] h = tt
+neither-halts x a b (name i ∷ l) h = absurd (apart h)
+neither-halts x a b (string i ∷ l) h = absurd (apart h)
+neither-halts x a b (sign g ∷ l) h = λ s. a g s
+neither-halts x a b (key k ∷ l) h = λ s. b k s
+
 -- Left sides.
 pub left-name-rule : {x : ℕ} → Rule (phrase Left) (name x) [] (λ fs. left-name x)
 left-name-rule = record { is = λ s. refl }
@@ -43,33 +50,24 @@ left-name-rule = record { is = λ s. refl }
 pub left-string-rule : {x : ℕ} → Rule (phrase Left) (string x) [] (λ fs. left-string x)
 left-string-rule = record { is = λ s. refl }
 
-left-halts : (ts : List Terminal) → names-string (next ts) ≡ false → Halts (phrase Left) ts
-left-halts [] h = tt
-left-halts (name x ∷ l) h = absurd (apart h)
-left-halts (string x ∷ l) h = absurd (apart h)
-left-halts (sign g ∷ l) h = λ s. refl
-left-halts (key k ∷ l) h = λ s. refl
+left-takes : (ts : List Terminal) → names-string (next ts) ≡ true → Takes (phrase Left) ts
+left-takes [] h = apart (sym h)
+left-takes (name x ∷ l) h = λ s. goes _ _
+left-takes (string x ∷ l) h = λ s. goes _ _
+left-takes (sign g ∷ l) h = absurd (apart (sym h))
+left-takes (key k ∷ l) h = absurd (apart (sym h))
 
 pub no-left! : {d : ℕ} {ts : List Terminal} → names-string (next ts) ≡ false → Fails d (phrase Left ∷ []) ts 10 ts
-no-left! {ts = ts} h = none! (phrase Left) ts refl (left-halts ts h)
+no-left! {ts = ts} h = none! (phrase Left) ts refl (neither-halts (phrase Left) (λ g s. refl) (λ k s. refl) ts h)
 
-lefts-halts : (ts : List Terminal) → Halts (phrase Left) ts → Halts (phrase Lefts) ts
-unfolding wrap
-lefts-halts [] h = tt
-lefts-halts (t ∷ l) h = λ s. ap (wrap _) (h (phrase MoreLefts ∷ s))
+lefts-begin : Begins (phrase Lefts) (phrase Left) (phrase MoreLefts ∷ []) (λ fs. lefts (fs .0) (fs .1 .0))
+lefts-begin = record { is = λ t s. refl }
 
 pub no-lefts! : {d : ℕ} {ts : List Terminal} → names-string (next ts) ≡ false → Reads d (phrase Lefts ∷ []) ts (no-lefts, tt) ts
-no-lefts! {ts = ts} h = empty! (phrase Lefts) ts refl (lefts-halts ts (left-halts ts h))
+no-lefts! {ts = ts} h = empty! (phrase Lefts) ts refl (begins-halts lefts-begin ts (neither-halts (phrase Left) (λ g s. refl) (λ k s. refl) ts h))
 
 pub lefts-rule : {ts : List Terminal} → names-string (next ts) ≡ true → Stands (phrase Lefts) (phrase Left ∷ phrase MoreLefts ∷ []) (λ fs. lefts (fs .0) (fs .1 .0)) ts
-lefts-rule {ts} h = record { is = λ s. at ts h s }
-  where
-    at : (ts : List Terminal) → names-string (next ts) ≡ true → (s : List Symbol) → read ts (phrase Lefts ∷ s) ≡ map-reading (λ fs. (lefts (fs .0) (fs .1 .0), fs .1 .1)) (read ts (phrase Left ∷ phrase MoreLefts ∷ s))
-    at [] h s = absurd (apart (sym h))
-    at (name x ∷ l) h s = start-eq (phrase Lefts) (phrase Left) s (phrase MoreLefts ∷ s) _ (name x) refl (goes _ _) l
-    at (string x ∷ l) h s = start-eq (phrase Lefts) (phrase Left) s (phrase MoreLefts ∷ s) _ (string x) refl (goes _ _) l
-    at (sign g ∷ l) h s = absurd (apart (sym h))
-    at (key k ∷ l) h s = absurd (apart (sym h))
+lefts-rule {ts} h = begins-as lefts-begin ts (left-takes ts h)
 
 pub more-lefts-rule : Rule (phrase MoreLefts) (key COMMA) (phrase Left ∷ phrase MoreLefts ∷ []) (λ fs. more-lefts (fs .0) (fs .1 .0))
 unfolding on-key
@@ -85,15 +83,8 @@ word-name-rule = record { is = λ s. refl }
 pub word-string-rule : {x : ℕ} → Rule (phrase Word) (string x) [] (λ fs. word-string x)
 word-string-rule = record { is = λ s. refl }
 
-word-halts : (ts : List Terminal) → names-string (next ts) ≡ false → Halts (phrase Word) ts
-word-halts [] h = tt
-word-halts (name x ∷ l) h = absurd (apart h)
-word-halts (string x ∷ l) h = absurd (apart h)
-word-halts (sign g ∷ l) h = λ s. refl
-word-halts (key k ∷ l) h = λ s. refl
-
 pub no-word! : {d : ℕ} {ts : List Terminal} → names-string (next ts) ≡ false → Fails d (phrase Word ∷ []) ts 10 ts
-no-word! {ts = ts} h = none! (phrase Word) ts refl (word-halts ts h)
+no-word! {ts = ts} h = none! (phrase Word) ts refl (neither-halts (phrase Word) (λ g s. refl) (λ k s. refl) ts h)
 
 pub labelled-rule : Rule (phrase Item) (key LBRACKET) (phrase Word ∷ fixed RBRACKET ∷ phrase Expression ∷ []) (λ fs. item-labelled (fs .0) (fs .1 .1 .0))
 unfolding on-key
@@ -117,27 +108,17 @@ string-rule : {x : ℕ} → Rule (phrase Item) (string x) (after-item-string ∷
 string-rule = record { is = λ s. refl }
 
 -- an identifier that neither ( nor a sign follows, and a string that no sign follows
-name-halts : (l : List Terminal) → (next l ≡ a-key LPAREN → ⊥) → ((g : Sign) → next l ≡ a-sign g → ⊥) → Halts after-item-name l
-unfolding wrap
-name-halts [] h i = tt
-name-halts (name x ∷ l) h i = λ s. refl
-name-halts (string x ∷ l) h i = λ s. refl
-name-halts (sign g ∷ l) h i = absurd (i g refl)
-name-halts (key k ∷ l) h i = λ s. ap (wrap (as-item-name-rest s)) (on-not k LPAREN _ _ (ne-eqb k LPAREN (λ e. h (ap a-key e))))
+name-begins : Begins after-item-name after-name (rests []) (λ fs. item-name-rest (fs .0) (fs .1 .0) (fs .1 .1 .0) (fs .1 .1 .1 .0) (fs .1 .1 .1 .1 .0))
+name-begins = record { is = λ t s. refl }
+
+string-begins : Begins after-item-string any-sign (phrase Term ∷ rests []) (λ fs. item-string-rest (fs .0) (fs .1 .0) (fs .1 .1 .0) (fs .1 .1 .1 .0) (fs .1 .1 .1 .1 .0) (fs .1 .1 .1 .1 .1 .0))
+string-begins = record { is = λ t s. refl }
 
 pub item-name! : {d x : ℕ} {ts l : List Terminal} → d ≤ 32 → ts ≡ name x ∷ l → (next l ≡ a-key LPAREN → ⊥) → ((g : Sign) → next l ≡ a-sign g → ⊥) → Reads d (phrase Item ∷ []) ts (item-word (word-name x), tt) l
-item-name! {l = l} k e h i = read! name-rule k e (empty! after-item-name l refl (name-halts l h i))
-
-string-halts : (l : List Terminal) → ((g : Sign) → next l ≡ a-sign g → ⊥) → Halts after-item-string l
-unfolding wrap
-string-halts [] h = tt
-string-halts (name x ∷ l) h = λ s. refl
-string-halts (string x ∷ l) h = λ s. refl
-string-halts (sign g ∷ l) h = absurd (h g refl)
-string-halts (key k ∷ l) h = λ s. refl
+item-name! {l = l} k e h i = read! name-rule k e (empty! after-item-name l refl (begins-halts name-begins l (after-name-halts l h i)))
 
 pub item-string! : {d x : ℕ} {ts l : List Terminal} → d ≤ 32 → ts ≡ string x ∷ l → ((g : Sign) → next l ≡ a-sign g → ⊥) → Reads d (phrase Item ∷ []) ts (item-word (word-string x), tt) l
-item-string! {l = l} k e h = read! string-rule k e (empty! after-item-string l refl (string-halts l h))
+item-string! {l = l} k e h = read! string-rule k e (empty! after-item-string l refl (begins-halts string-begins l (sign-halts l h)))
 
 item-name : (x : ℕ) (l : List Terminal) (s : List Symbol) → read l (after-item-name ∷ s) ≡ map-reading (as-item-name-rest s) (read l (after-name ∷ rests s)) → read (name x ∷ l) (phrase Item ∷ s) ≡ map-reading (as-item s) (read (name x ∷ l) (phrase Expression ∷ s))
 unfolding wrap
@@ -181,14 +162,8 @@ unfolding on-key
 alone-rule = record { is = λ s. refl }
 
 pub no-left-end! : {d : ℕ} {ts : List Terminal} → (next ts ≡ a-key BECOMES → ⊥) → (next ts ≡ a-key SEMICOLON → ⊥) → Fails d (after-left ∷ []) ts 10 ts
-no-left-end! {ts = ts} h i = none! after-left ts refl (at ts h i)
-  where
-    at : (ts : List Terminal) → (next ts ≡ a-key BECOMES → ⊥) → (next ts ≡ a-key SEMICOLON → ⊥) → Halts after-left ts
-    at [] h i = tt
-    at (name x ∷ l) h i = λ s. refl
-    at (string x ∷ l) h i = λ s. refl
-    at (sign g ∷ l) h i = λ s. refl
-    at (key k ∷ l) h i = λ s. on-not k BECOMES _ _ (ne-eqb k BECOMES (λ e. h (ap a-key e))) ∙ on-not k SEMICOLON _ _ (ne-eqb k SEMICOLON (λ e. i (ap a-key e)))
+no-left-end! {ts = ts} h i =
+    none! after-left ts refl (keys-alone after-left (λ i s. refl) (λ i s. refl) (λ g s. refl) ts (λ k e s. on-not k BECOMES _ _ (not-key e h) ∙ on-not k SEMICOLON _ _ (not-key e i)))
 
 pub conditional-rule : Rule (phrase Statement) (key IF) (phrase Expression ∷ phrase Block ∷ phrase Else ∷ []) (λ fs. conditional (fs .0) (fs .1 .0) (fs .1 .1 .0))
 unfolding on-key
@@ -253,20 +228,18 @@ no-statement! {ts = ts} h = none! (phrase Statement) ts refl (statement-halts ts
 pub program-rule : {ts : List Terminal} → Stands (phrase Program) (phrase Statement ∷ phrase MoreStatements ∷ []) (λ fs. program (fs .0) (fs .1 .0)) ts
 program-rule {ts} = record { is = λ s. unit-eq (phrase Program) (phrase Statement) s (phrase MoreStatements ∷ s) _ refl refl (λ t. refl) ts }
 
-more-statements-halts : (ts : List Terminal) → Halts (phrase Statement) ts → Halts (phrase MoreStatements) ts
-unfolding wrap
-more-statements-halts [] h = tt
-more-statements-halts (t ∷ l) h = λ s. ap (wrap _) (h (phrase MoreStatements ∷ s))
+statement-takes : (ts : List Terminal) → begins-statement (next ts) ≡ true → Takes (phrase Statement) ts
+statement-takes [] h = apart (sym h)
+statement-takes (name x ∷ l) h = λ s. goes _ _
+statement-takes (string x ∷ l) h = absurd (apart (sym h))
+statement-takes (sign g ∷ l) h = absurd (apart (sym h))
+statement-takes (key k ∷ l) h = λ s. on-goes k IF _ _ _ (eqb k WHILE || (eqb k FOR || (eqb k LBRACE || (eqb k PRINT || false)))) (on-goes k WHILE _ _ _ (eqb k FOR || (eqb k LBRACE || (eqb k PRINT || false))) (on-goes k FOR _ _ _ (eqb k LBRACE || (eqb k PRINT || false)) (on-goes k LBRACE _ _ _ (eqb k PRINT || false) (on-goes k PRINT _ _ _ false (λ e. absurd (apart (sym e))))))) h
+
+more-begin : Begins (phrase MoreStatements) (phrase Statement) (phrase MoreStatements ∷ []) (λ fs. more-statements (fs .0) (fs .1 .0))
+more-begin = record { is = λ t s. refl }
 
 pub end-statements! : {d : ℕ} {ts : List Terminal} → begins-statement (next ts) ≡ false → Reads d (phrase MoreStatements ∷ []) ts (end-statements, tt) ts
-end-statements! {ts = ts} h = empty! (phrase MoreStatements) ts refl (more-statements-halts ts (statement-halts ts h))
+end-statements! {ts = ts} h = empty! (phrase MoreStatements) ts refl (begins-halts more-begin ts (statement-halts ts h))
 
 pub more-statements-rule : {ts : List Terminal} → begins-statement (next ts) ≡ true → Stands (phrase MoreStatements) (phrase Statement ∷ phrase MoreStatements ∷ []) (λ fs. more-statements (fs .0) (fs .1 .0)) ts
-more-statements-rule {ts} h = record { is = λ s. at ts h s }
-  where
-    at : (ts : List Terminal) → begins-statement (next ts) ≡ true → (s : List Symbol) → read ts (phrase MoreStatements ∷ s) ≡ map-reading (λ fs. (more-statements (fs .0) (fs .1 .0), fs .1 .1)) (read ts (phrase Statement ∷ phrase MoreStatements ∷ s))
-    at [] h s = absurd (apart (sym h))
-    at (name x ∷ l) h s = start-eq (phrase MoreStatements) (phrase Statement) s (phrase MoreStatements ∷ s) _ (name x) refl (goes _ _) l
-    at (string x ∷ l) h s = absurd (apart (sym h))
-    at (sign g ∷ l) h s = absurd (apart (sym h))
-    at (key k ∷ l) h s = start-eq (phrase MoreStatements) (phrase Statement) s (phrase MoreStatements ∷ s) _ (key k) refl (on-goes k IF _ _ _ (eqb k WHILE || (eqb k FOR || (eqb k LBRACE || (eqb k PRINT || false)))) (on-goes k WHILE _ _ _ (eqb k FOR || (eqb k LBRACE || (eqb k PRINT || false))) (on-goes k FOR _ _ _ (eqb k LBRACE || (eqb k PRINT || false)) (on-goes k LBRACE _ _ _ (eqb k PRINT || false) (on-goes k PRINT _ _ _ false (λ e. absurd (apart (sym e))))))) h) l
+more-statements-rule {ts} h = begins-as more-begin ts (statement-takes ts h)
