@@ -1,21 +1,21 @@
 -- Relations have at most 3 terms: those of the facts by the line's elements, those of the query by their first use.
 use mathlib.Core.Path.{_≡_, subst}
-use mathlib.Core.Bool.{Bool, true, false, not, _&&_, cond}
+use mathlib.Core.Bool.{not}
 use mathlib.Core.List.{List, [], _∷_, _++_}
 use Prim.Native.Nat.{ℕ, zero, suc, _+_, _≤_}
 use native.Mathlib.Omega.{arith}
-use lib.Dec.{eqb, ltb, leb}
+use lib.Dec.{eqb, leb}
 use lib.ListN.{length, drop, take, getD}
-use Rattle.definition.specs.Text.{Text, span, is-blank, is-legal, is-name}
-use Rattle.definition.specs.Limits.{Limits, ARITY, FACT-BYTES}
+use Rattle.definition.specs.Text.{Text, span, is-blank, is-name}
+use Rattle.definition.specs.Limits.{Limits, ARITY}
 use Rattle.definition.specs.Token.{Token}
 use Rattle.definition.specs.Answer.{ok, refused, _>>=_, refuse-if}
-use Rattle.definition.specs.Facts.{Relation, Element, Fact, Facts, Line, Word, none, one, wrong, is-inside, word, on-word, elements, fact, skipped, add-relation, on-arities, use-relation, use-elements, arities, last-place, with-fact, read-lines, fact-lines, bytes-read, read-facts}
-use Rattle.definition.specs.Names.{Role, Use, in-program, relation, Kinds, use-name, use-names, fact-kinds}
+use Rattle.definition.specs.Facts.{Relation, Element, Fact, Facts, Line, Word, none, one, wrong, is-inside, word, on-word, elements, fact, add-relation, on-arities, use-relation, arities, last-place, read-facts}
+use Rattle.definition.specs.Names.{Role, Use, in-program, relation, Kinds, use-names, fact-kinds}
 use Rattle.definition.specs.Accept.{Accepted, accept}
 use Rattle.definition.proofs.RelationLaws.{no-relation}
-use Rattle.definition.proofs.AcceptLaws.{never, ok-injective, bind-ok, then-ok, parts}
-use Rattle.definition.proofs.NameLaws.{new-relation, Used, kept, added, used, Numbered, relation-place}
+use Rattle.definition.proofs.AcceptLaws.{never, ok-injective, bind-ok, then-ok, fact-relation, facts-hold, parts}
+use Rattle.definition.proofs.NameLaws.{new-relation, Used, kept, added, used, names-hold, Numbered, relation-place}
 use Rattle.definition.proofs.ScopeLaws.{first-small}
 
 -- no relation has more than 3 terms
@@ -73,34 +73,9 @@ relation-small limits q p rs qs e h s = go (arities (q .name) rs) e
     go [] e = subst Small (ok-injective (then-ok (refuse-if (leb (limits .relations) (length rs)) 6 (q .at)) _ qs e)) (small-more rs q h s)
     go (n ∷ ns) e = subst Small (ok-injective (then-ok (refuse-if (not (eqb n (q .arity))) 5 p) _ qs e)) s
 
-fact-small : (limits : Limits) (s : Facts) (f : Fact) (t : Facts) → with-fact limits s f ≡ ok t → length (f .elements) ≤ ARITY → Small (s .relations) → Small (t .relations)
-unfolding with-fact
-fact-small limits s f t e h g =
-    let q : Relation = record { name = f .name; arity = length (f .elements); text = 0; at = f .at } in
-    let (rs, p, e₁) = bind-ok (use-relation limits q (last-place (f .at) (f .elements)) (s .relations)) _ t e in
-    let (us, p₁, e₂) = bind-ok (use-elements limits (f .elements) (s .universe)) _ t e₁ in
-    subst (λ (u : Facts). Small (u .relations)) (ok-injective e₂) (relation-small limits q (last-place (f .at) (f .elements)) (s .relations) rs p h g)
-
-lines-small : (limits : Limits) (ls : List Line) (s t : Facts) → read-lines limits ls s ≡ ok t → Small (s .relations) → Small (t .relations)
-unfolding read-lines
-lines-small limits [] s t e h = subst (λ (u : Facts). Small (u .relations)) (ok-injective e) h
-lines-small limits (l ∷ ls) s t e h = go (skipped (l .bytes)) e (λ s e h. lines-small limits ls s t e h)
-  where
-    go : (b : Bool) → cond b (read-lines limits ls s) (do f ← fact l; u ← with-fact limits s f; read-lines limits ls u) ≡ ok t
-        → ((s : Facts) → read-lines limits ls s ≡ ok t → Small (s .relations) → Small (t .relations)) → Small (t .relations)
-    go true e ih = ih s e h
-    go false e ih =
-        let (f, p, e₁) = bind-ok (fact l) _ t e in
-        let (u, p₁, e₂) = bind-ok (with-fact limits s f) _ t e₁ in
-        ih u e₂ (fact-small limits s f u p₁ (fact-few l f p) h)
-
 pub facts-small : (limits : Limits) (xs : Text) (f : Facts) → read-facts limits xs ≡ ok f → Small (f .relations)
-unfolding read-facts
-facts-small limits xs f e =
-    let legal = span is-legal xs in
-    let e₁ = then-ok (refuse-if (ltb FACT-BYTES (length xs)) 1 FACT-BYTES) _ f e in
-    let e₂ = then-ok (refuse-if (ltb legal (length xs) && ltb legal (bytes-read (fact-lines xs))) 2 legal) _ f e₁ in
-    lines-small limits (fact-lines xs) (record { relations = []; universe = []; facts = [] }) f e₂ small-none
+facts-small limits =
+    facts-hold limits (λ u. Small (u .relations)) (λ l f s t p a h. relation-small limits (fact-relation f) (last-place (f .at) (f .elements)) (s .relations) (t .relations) (a .relations) (fact-few l f p) h) small-none
 
 -- the relations that the query adds
 used-small : {k : Kinds} {p : Role} {t : Token} {l : Kinds} → Used k p t l → Small (k .relations) → Small (l .relations)
@@ -108,11 +83,7 @@ used-small {k} {p} {t} (kept v e) h = h
 used-small {k} {p} {t} (added n e) h = small-more (k .relations) (new-relation t n) (first-small p (k .known (t .text)) n e) h
 
 pub names-small : (limits : Limits) (us : List Use) (k l : Kinds) → use-names limits us k ≡ ok l → Small (k .relations) → Small (l .relations)
-unfolding use-names
-names-small limits [] k l e h = subst (λ (m : Kinds). Small (m .relations)) (ok-injective e) h
-names-small limits (u ∷ us) k l e h =
-    let (m, p, q) = bind-ok (use-name limits k u) _ l e in
-    names-small limits us m l q (used-small (used limits k (u .role) (u .token) m p) h)
+names-small limits = names-hold limits (λ m. Small (m .relations)) (λ k u l e. used-small (used limits k (u .role) (u .token) l e))
 
 -- so a name before n terms has at most 3
 pub arity-small : (k : Kinds) → Numbered k → Small (k .relations) → (x : Text) (i n : ℕ) → k .known x ≡ relation i n → n ≤ ARITY

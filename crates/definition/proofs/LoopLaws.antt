@@ -12,12 +12,12 @@ use Rattle.definition.specs.Limits.{Limits}
 use Rattle.definition.specs.Token.{Token}
 use Rattle.definition.specs.Syntax.{Term, name, string, anything, Expression, atom, truth, falsity, compare, negation, conjunction, disjunction, implication, equivalence, exists, for-all, closure-of, compare-relations}
 use Rattle.definition.specs.Syntax.{Item, rows, word, line-end, Program, end, assign, print, test, while, for, block}
-use Rattle.definition.specs.Answer.{Answer, ok, _>>=_}
+use Rattle.definition.specs.Answer.{ok}
 use Rattle.definition.specs.Names.{Role, before-terms, attribute-only, term, variable-only, after-for, enter, leave, Use, use-as, in-terms, in-expression, in-item, in-program, Known, nothing, attribute, variable, open-variable, relation, Rule, becomes, first, row, rule, Kinds, learn, use-name, use-names, is-variable}
 use Rattle.definition.proofs.BoolLaws.{decide, and-left, and-right, and-both}
 use Rattle.definition.proofs.MeaningLaws.{same-eq}
 use Rattle.definition.proofs.AcceptLaws.{ok-injective, bind-ok}
-use Rattle.definition.proofs.NameLaws.{learn-here, learn-other, Used, kept, added, used, names-append}
+use Rattle.definition.proofs.NameLaws.{learn-here, Used, kept, added, used, used-other, names-append}
 
 -- the roles of names in expressions and items
 abbrev plain : Role → Bool
@@ -57,11 +57,6 @@ rule-steady variable-only open-variable s t = refl
 rule-steady after-for open-variable s t = absurd s
 rule-steady enter open-variable s t = absurd s
 rule-steady leave open-variable s t = absurd s
-
--- a use changes nothing of another name
-used-other : {k : Kinds} {p : Role} {t : Token} {l : Kinds} → Used k p t l → (y : Text) → T (not (same (t .text) y)) → l .known y ≡ k .known y
-used-other {k} {p} {t} (kept v e) y n = learn-other (t .text) y v (k .known) n
-used-other {k} {p} {t} (added c e) y n = learn-other (t .text) y (relation (length (k .relations)) c) (k .known) n
 
 used-steady : {k : Kinds} {p : Role} {t : Token} {l : Kinds} → Used k p t l → T (plain p) → (y : Text) → T (is-variable (k .known y)) → l .known y ≡ k .known y
 used-steady {k} {p} {t} {l} h s y m = go (decide (same (t .text) y))

@@ -3,10 +3,10 @@ use mathlib.Core.Path.{_≡_, refl, sym, ap, subst, _∙_}
 use mathlib.Core.Logic.{_⊎_, inl, inr}
 use mathlib.Core.Bool.{Bool, true, false, not, cond}
 use mathlib.Core.List.{List, [], _∷_, _++_}
-use Prim.Native.Nat.{ℕ, zero, suc, _+_, _<_}
+use Prim.Native.Nat.{ℕ, suc, _+_, _<_}
 use native.Mathlib.Nat.{zero-add}
 use native.Mathlib.Omega.{arith}
-use lib.Dec.{T, eqb, ltb, leb, eqb→eq, not-T}
+use lib.Dec.{T, eqb, ltb, leb, eqb→eq}
 use lib.ListN.{length, getD}
 use Rattle.definition.specs.Text.{Text, same}
 use Rattle.definition.specs.Limits.{Limits, ARITY}
@@ -14,22 +14,19 @@ use Rattle.definition.specs.Token.{Token}
 use Rattle.definition.specs.Answer.{Answer, ok, refused, _>>=_, refuse-if}
 use Rattle.definition.specs.Facts.{Relation, add-relation}
 use Rattle.definition.specs.Names.{Role, before-terms, attribute-only, term, variable-only, after-for, enter, leave, Use, use-as, Known, nothing, attribute, variable, open-variable, relation, Rule, becomes, first, row, rule, Kinds, learn, follow, use-name, use-names, numbered, fact-kinds, is-variable}
-use Rattle.definition.proofs.BoolLaws.{decide, is-true, is-false}
-use Rattle.definition.proofs.MeaningLaws.{same-eq, same-refl}
+use Rattle.definition.proofs.BoolLaws.{decide, is-false}
+use Rattle.definition.proofs.MeaningLaws.{same-eq, same-itself, other}
 use Rattle.definition.proofs.RelationLaws.{place-of, no-relation}
 use Rattle.definition.proofs.AcceptLaws.{ok-injective, bind-ok, then-ok}
 
 -- one update
 pub learn-here : (x : Text) (v : Known) (known : Text → Known) → learn x v known x ≡ v
 unfolding learn
-learn-here x v known = rw (is-true (same x x) (same-refl x))
+learn-here x v known = rw (same-itself x)
 
 pub learn-other : (x y : Text) (v : Known) (known : Text → Known) → T (not (same x y)) → learn x v known y ≡ known y
 unfolding learn
 learn-other x y v known n = rw (is-false (same x y) n)
-
-turned : (x y : Text) → T (not (same x y)) → T (not (same y x))
-turned x y n = not-T (same y x) (λ s. rw (same-eq y x s, is-true (same x x) (same-refl x)) at n)
 
 -- what may become of what is known: a kind is kept, and a relation's number and arity
 abbrev pub Keeps : Known → Known → Type 0
@@ -166,6 +163,11 @@ used limits k p t l e = go (rule p (k .known (t .text))) refl e
         let p₂ : k .relations ++ (new-relation t n ∷ []) ≡ rs = relation-added limits (new-relation t n) (k .relations) rs p₁ in
         subst (Used k p t) (ok-injective q₁) (subst (λ qs. Used k p t (record { known = learn (t .text) (relation (length (k .relations)) n) (k .known); relations = qs })) p₂ (added n g))
 
+-- a use changes nothing of another name
+pub used-other : {k : Kinds} {p : Role} {t : Token} {l : Kinds} → Used k p t l → (y : Text) → T (not (same (t .text) y)) → l .known y ≡ k .known y
+used-other {k} {p} {t} (kept v e) y n = learn-other (t .text) y v (k .known) n
+used-other {k} {p} {t} (added c e) y n = learn-other (t .text) y (relation (length (k .relations)) c) (k .known) n
+
 becomes-right : (p : Role) (v w : Known) → rule p v ≡ becomes w → Right p v (becomes w)
 becomes-right p v w e = subst (Right p v) e (rule-right p v)
 
@@ -192,13 +194,19 @@ used-fits {k} {p} {t} (added n e) =
     let w = relation (length (k .relations)) n in
     subst (λ q. Fits q (learn (t .text) w (k .known) (t .text))) (sym (first-right p (k .known (t .text)) n e .1)) (length (k .relations), learn-here (t .text) w (k .known))
 
+-- what holds before some uses, and after each if it held before, holds after them
+pub names-hold : (limits : Limits) (P : Kinds → Type 0) → ((k : Kinds) (u : Use) (l : Kinds) → use-name limits k u ≡ ok l → P k → P l)
+    → (us : List Use) (k l : Kinds) → use-names limits us k ≡ ok l → P k → P l
+unfolding use-names
+names-hold limits P more [] k l e h = subst P (ok-injective e) h
+names-hold limits P more (u ∷ us) k l e h =
+    let (m, p, q) = bind-ok (use-name limits k u) _ l e in
+    names-hold limits P more us m l q (more k u m p h)
+
 -- "One name has one kind throughout": what is known is kept by all uses
 pub names-keep : (limits : Limits) (us : List Use) (k l : Kinds) → use-names limits us k ≡ ok l → (y : Text) → Keeps (k .known y) (l .known y)
-unfolding use-names
-names-keep limits [] k l e y = subst (λ (m : Kinds). Keeps (k .known y) (m .known y)) (ok-injective e) (keeps-itself (k .known y))
-names-keep limits (u ∷ us) k l e y =
-    let (m, p, q) = bind-ok (use-name limits k u) _ l e in
-    keeps-then (k .known y) (m .known y) (l .known y) (used-keeps (used limits k (u .role) (u .token) m p) y) (names-keep limits us m l q y)
+names-keep limits us k l e y =
+    names-hold limits (λ n. Keeps (k .known y) (n .known y)) (λ m u n p h. keeps-then (k .known y) (m .known y) (n .known y) h (used-keeps (used limits m (u .role) (u .token) n p) y)) us k l e (keeps-itself (k .known y))
 
 -- each use fits what is known
 pub data Fitting (known : Text → Known) : List Use → Type 0 where
@@ -252,7 +260,7 @@ numbered-more i (r ∷ rs) q x n = ap (λ z. cond (same x (r .name)) (relation i
 
 numbered-new : (i : ℕ) (rs : List Relation) (q : Relation) → numbered i rs (q .name) ≡ nothing → numbered i (rs ++ (q ∷ [])) (q .name) ≡ relation (i + length rs) (q .arity)
 unfolding numbered
-numbered-new i [] q e = rw (is-true (same (q .name) (q .name)) (same-refl (q .name))) (ap (λ j. relation j (q .arity)) (omega arith))
+numbered-new i [] q e = rw (same-itself (q .name)) (ap (λ j. relation j (q .arity)) (omega arith))
 numbered-new i (r ∷ rs) q e = go (same (q .name) (r .name)) e (numbered-new (suc i) rs q)
   where
     go : (b : Bool) → cond b (relation i (r .arity)) (numbered (suc i) rs (q .name)) ≡ nothing
@@ -297,14 +305,10 @@ used-numbered {k} {p} {t} (added c e) n = record { by-place = λ y. go y (decide
     go y (inl s) =
         subst (λ z. as-relation (learn x v (k .known) z) ≡ numbered 0 (k .relations ++ (q ∷ [])) z) (same-eq x y s)
         (ap as-relation (learn-here x v (k .known)) ∙ sym last)
-    go y (inr m) = ap as-relation (learn-other x y v (k .known) m) ∙ n .by-place y ∙ sym (numbered-more 0 (k .relations) q y (turned x y m))
+    go y (inr m) = ap as-relation (learn-other x y v (k .known) m) ∙ n .by-place y ∙ sym (numbered-more 0 (k .relations) q y (other x y m))
 
 pub names-numbered : (limits : Limits) (us : List Use) (k l : Kinds) → use-names limits us k ≡ ok l → Numbered k → Numbered l
-unfolding use-names
-names-numbered limits [] k l e n = subst Numbered (ok-injective e) n
-names-numbered limits (u ∷ us) k l e n =
-    let (m, p, q) = bind-ok (use-name limits k u) _ l e in
-    names-numbered limits us m l q (used-numbered (used limits k (u .role) (u .token) m p) n)
+names-numbered limits = names-hold limits Numbered (λ k u l e. used-numbered (used limits k (u .role) (u .token) l e))
 
 -- "facts come first"
 pub facts-numbered : (rs : List Relation) → Numbered (fact-kinds rs)

@@ -1,9 +1,9 @@
 -- The limits of each statement of an accepted program: its attributes, its closures, the free attributes of its expressions.
-use mathlib.Core.Path.{_≡_, refl, sym, subst}
-use mathlib.Core.Bool.{Bool, true, false, _&&_, _||_, not}
+use mathlib.Core.Path.{_≡_}
+use mathlib.Core.Bool.{Bool, true, _&&_, _||_, not, and-eq-true-iff}
 use mathlib.Core.List.{List, [], _∷_, _++_}
 use Prim.Native.Nat.{ℕ, _≤_}
-use lib.Dec.{T, eqb, ltb, leb}
+use lib.Dec.{eqb, ltb, leb}
 use lib.ListN.{length}
 use borrow.Author.Tests.{ltb-false, leb-true, eqb-true, not-false}
 use Rattle.definition.specs.Text.{Text, all-of, gather}
@@ -11,17 +11,8 @@ use Rattle.definition.specs.Limits.{ATTRIBUTES, CLOSURES, PRINTED-ATTRIB
 use Rattle.definition.specs.Syntax.{Expression, Program, end, assign, print, test, while, for, block}
 use Rattle.definition.specs.Answer.{Answer, ok, _>>_, refuse-if}
 use Rattle.definition.specs.Names.{attribute-only, Use, in-terms, in-expression, in-item, attributes, free, closures, attribute-names, statement-rows, subset, item-expressions, program-rows}
-use Rattle.definition.proofs.BoolLaws.{and-left, and-right, is-true, apart}
+use Rattle.definition.proofs.BoolLaws.{or-eq-false}
 use Rattle.definition.proofs.AcceptLaws.{then-ok, was-ok, not-refused}
-
-or-false : (x y : Bool) → x || y ≡ false → (x ≡ false) × (y ≡ false)
-or-false true y e = absurd (apart e)
-or-false false y e = (refl, e)
-
-and-true : (x y : Bool) → x && y ≡ true → (x ≡ true) × (y ≡ true)
-and-true x y e =
-    let t : T (x && y) = subst T (sym e) tt in
-    (is-true x (and-left x y t), is-true y (and-right x y t))
 
 both-ok : (m q : Answer (Unit {0})) → _>>_ m q ≡ ok tt → (m ≡ ok tt) × (q ≡ ok tt)
 both-ok m q e = (was-ok m q tt e, then-ok m q tt e)
@@ -35,7 +26,7 @@ every : (P : Expression → Type 0) (p : Expression → Bool) → ((e : Expressi
 unfolding Every all-of
 every P p f [] h = tt
 every P p f (e ∷ es) h =
-    let (a, b) = and-true (p e) (all-of p es) h in
+    let (a, b) = and-eq-true-iff (p e) (all-of p es) .0 h in
     (f e a, every P p f es b)
 
 -- `vs` says which names are loop variables
@@ -69,8 +60,8 @@ module _ (vs : Text → Bool) where
       let fits = right && all-of (λ (c : Expression). eqb (length (free vs c)) 2) cs in
       let (e, g) = both-ok (statement-rows vs i us es right) q h in
       let (e₁, e₂) = both-ok (refuse-if many 13 i) (refuse-if (not fits) 12 i) e in
-      let (a, b) = or-false (ltb ATTRIBUTES (length (attribute-names vs us))) (ltb CLOSURES (length cs)) (not-refused many 13 i e₁) in
-      let (c, d) = and-true right (all-of (λ (c : Expression). eqb (length (free vs c)) 2) cs) (not-false fits (not-refused (not fits) 12 i e₂)) in
+      let (a, b) = or-eq-false (ltb ATTRIBUTES (length (attribute-names vs us))) (ltb CLOSURES (length cs)) (not-refused many 13 i e₁) in
+      let (c, d) = and-eq-true-iff right (all-of (λ (c : Expression). eqb (length (free vs c)) 2) cs) .0 (not-false fits (not-refused (not fits) 12 i e₂)) in
       let limits : StatementOk us es = record {
         few-attributes = ltb-false ATTRIBUTES (length (attribute-names vs us)) a;
         few-closures = ltb-false CLOSURES (length cs) b;
@@ -93,7 +84,7 @@ module _ (vs : Text → Bool) where
       let left = subset (attributes vs ps) (free vs e) in
       let right = subset (free vs e) (attributes vs ps) in
       let (s, c, g) = statement-ok i (in-terms attribute-only ps ++ in-expression e) (e ∷ []) (left && right) (program-rows vs q) h in
-      let (a, b) = and-true left right c in
+      let (a, b) = and-eq-true-iff left right .0 c in
       (s, (a, (b, rows-ok q g)))
   rows-ok (print i is q) h =
       let es = gather item-expressions is in

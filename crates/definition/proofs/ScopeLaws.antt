@@ -16,9 +16,9 @@ use Rattle.definition.specs.Answer.{Answer, ok, _>>=_}
 use Rattle.definition.specs.Facts.{Relation}
 use Rattle.definition.specs.Names.{Role, before-terms, attribute-only, term, variable-only, after-for, enter, leave, Use, use-as, in-terms, in-expression, in-item, in-program, Known, nothing, attribute, variable, open-variable, relation, Rule, becomes, first, row, rule, Kinds, use-name, use-names, numbered, fact-kinds, variables}
 use Rattle.definition.proofs.BoolLaws.{decide, is-true, is-false}
-use Rattle.definition.proofs.MeaningLaws.{same-eq, same-refl, other}
+use Rattle.definition.proofs.MeaningLaws.{same-eq, other, member-first}
 use Rattle.definition.proofs.AcceptLaws.{ok-injective, bind-ok}
-use Rattle.definition.proofs.NameLaws.{learn-here, learn-other, Keeps, Fits, Used, kept, added, used, names-keep, Fitting, one, names-fit, names-append}
+use Rattle.definition.proofs.NameLaws.{learn-here, Keeps, Fits, Used, kept, added, used, used-other, names-keep, Fitting, one, names-fit, names-append}
 
 -- the name of a term, the names of terms: each as its place takes it
 abbrev pub Named : (Text → Type 0) → Term → Type 0
@@ -187,10 +187,6 @@ used-here {l} {p} {t} (added n e) =
     let (a, b, c) = subst (Seen p (l .known (t .text))) e (rule-seen p (l .known (t .text))) in
     (ap is-open (learn-here (t .text) (relation (length (l .relations)) n) (l .known)) ∙ sym a, b _)
 
-used-other : {l : Kinds} {p : Role} {t : Token} {m : Kinds} → Used l p t m → (y : Text) → T (not (same (t .text) y)) → m .known y ≡ l .known y
-used-other {l} {t = t} (kept v e) y n = learn-other (t .text) y v (l .known) n
-used-other {l} {t = t} (added c e) y n = learn-other (t .text) y (relation (length (l .relations)) c) (l .known) n
-
 first-fits : {known : Text → Known} {u : Use} {us : List Use} → Fitting known (u ∷ us) → Fits (u .role) (known (u .token .text))
 first-fits (one h f) = h
 
@@ -206,10 +202,6 @@ used-open {l} {p} {t} {m} s r u o h g = record { opens = λ y. go y (decide (sam
     go : (y : Text) → T (same (t .text) y) ⊎ T (not (same (t .text) y)) → is-open (m .known y) ≡ member y r
     go y (inl q) = subst (λ z. is-open (m .known z) ≡ member z r) (same-eq (t .text) y q) (used-here u .0 ∙ h)
     go y (inr n) = ap is-open (used-other u y n) ∙ o .opens y ∙ g y n
-
-member-first : (x : Text) (s : List Text) → member x (x ∷ s) ≡ true
-unfolding member some-of
-member-first x s = rw (is-true (same x x) (same-refl x))
 
 member-rest : (x : Text) (s : List Text) (y : Text) → T (not (same x y)) → member y (x ∷ s) ≡ member y s
 unfolding member some-of
@@ -333,7 +325,7 @@ module _ (limits : Limits) (k : Kinds) where
 
   -- a loop's block begins and ends
   scopes-enter : (s : List Text) (v : Token) → Scopes s (v .text ∷ s) (use-as enter v ∷ []) (Unit {0})
-  scopes-enter s v = scopes-use s (v .text ∷ s) enter v _ (λ l m u o h w. (tt, used-open s (v .text ∷ s) u o (sym (member-first (v .text) s)) (λ y n. sym (member-rest (v .text) s y n))))
+  scopes-enter s v = scopes-use s (v .text ∷ s) enter v _ (λ l m u o h w. (tt, used-open s (v .text ∷ s) u o (sym (is-true (member (v .text) (v .text ∷ s)) (member-first (v .text) s))) (λ y n. sym (member-rest (v .text) s y n))))
 
   scopes-leave : (s : List Text) (v : Token) → T (not (member (v .text) s)) → Scopes (v .text ∷ s) s (use-as leave v ∷ []) (Unit {0})
   scopes-leave s v f = scopes-use (v .text ∷ s) s leave v _ (λ l m u o h w. (tt, used-open (v .text ∷ s) s u o (sym (is-false (member (v .text) s) f)) (λ y n. member-rest (v .text) s y n)))

@@ -14,7 +14,7 @@ use Rattle.definition.specs.Grammar
 use Rattle.definition.specs.Syntax.{Program, end, assign, print, test, while, for, block, the, says, size, Expression, Term, Item}
 use Rattle.definition.specs.Text.{Text}
 use Rattle.definition.proofs.BoolLaws.{apart}
-use Rattle.definition.proofs.TokenLaws.{Holds, holds-name, holds-string, lexed-numbered, number-at, terminals-drop}
+use Rattle.definition.proofs.TokenLaws.{Holds, holds-name, holds-string, lexed-tokens, number-at, terminals-drop}
 
 -- a phrase that holds statements, and its tokens
 pub data Body : Type 0 where
@@ -182,7 +182,7 @@ inside ts i t l e = omega (arith, ap length e, length-drop i (terminals ts), len
 held : (query : Text) (ts : List Token) (i : ℕ) (t : Terminal) (l : List Terminal) → lexed query ≡ tokens ts → drop i (terminals ts) ≡ t ∷ l → Holds i t
 held query ts i t l e d =
     let h = inside ts i t l d in
-    subst (Holds i) (heads (sym (terminals-drop ts i h) ∙ d)) (subst (λ n. Holds n (token-at ts i .terminal)) (zero-add i) (number-at (lexed-numbered query ts e) i h))
+    subst (Holds i) (heads (sym (terminals-drop ts i h) ∙ d)) (subst (λ n. Holds n (token-at ts i .terminal)) (zero-add i) (number-at (lexed-tokens query ts e) i h))
   where
     heads : {a b : Terminal} {l m : List Terminal} → a ∷ l ≡ b ∷ m → a ≡ b
     heads e = cc

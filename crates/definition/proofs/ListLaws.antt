@@ -1,0 +1,24 @@
+-- A test over a list, and the lists that a function gives, where two lists follow each other.
+use mathlib.Core.Path.{_≡_, refl, sym, ap, _∙_}
+use mathlib.Core.Bool.{Bool, _&&_, _||_, and-assoc, or-assoc}
+use mathlib.Core.List.{List, [], _∷_, _++_, append-assoc, append-nil}
+use Rattle.definition.specs.Text.{some-of, all-of, gather}
+
+pub some-append : {A : Type 0} (p : A → Bool) (xs ys : List A) → some-of p (xs ++ ys) ≡ some-of p xs || some-of p ys
+unfolding some-of
+some-append p [] ys = refl
+some-append p (x ∷ xs) ys = ap (λ (b : Bool). p x || b) (some-append p xs ys) ∙ sym (or-assoc (p x) (some-of p xs) (some-of p ys))
+
+pub all-append : {A : Type 0} (p : A → Bool) (xs ys : List A) → all-of p (xs ++ ys) ≡ all-of p xs && all-of p ys
+unfolding all-of
+all-append p [] ys = refl
+all-append p (x ∷ xs) ys = ap (λ (b : Bool). p x && b) (all-append p xs ys) ∙ sym (and-assoc (p x) (all-of p xs) (all-of p ys))
+
+pub gather-append : {A B : Type 0} (f : A → List B) (xs ys : List A) → gather f (xs ++ ys) ≡ gather f xs ++ gather f ys
+unfolding gather
+gather-append f [] ys = refl
+gather-append f (x ∷ xs) ys = ap (λ zs. f x ++ zs) (gather-append f xs ys) ∙ sym (append-assoc (f x) (gather f xs) (gather f ys))
+
+pub gather-one : {A B : Type 0} (f : A → List B) (x : A) → gather f (x ∷ []) ≡ f x
+unfolding gather
+gather-one f x = append-nil (f x)
