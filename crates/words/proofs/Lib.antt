@@ -3,5 +3,6 @@ pub mod FieldLaws
 pub mod Sizes
 pub mod Places
 pub mod NameOrder
+pub mod EachKind
 pub mod StatementParts
 pub mod Said

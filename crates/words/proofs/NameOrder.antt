@@ -1,5 +1,5 @@
 -- The names of a program stand in its words in the order of its tokens: the uses that its words show are the program's.
-use Prim.Native.Nat.{ℕ, zero, suc, _+_, _-_, _<_, _≤_}
+use Prim.Native.Nat.{ℕ, _+_, _-_, _<_, _≤_}
 use mathlib.Core.Path.{_≡_, refl, subst}
 use mathlib.Core.List.{List, [], _∷_, _++_, append-nil}
 use native.Mathlib.Omega.{arith}
@@ -9,10 +9,10 @@ use Rattle.definition.specs.Token.{Token}
 use Rattle.definition.specs.Syntax.{Term, name, string, anything, Expression, atom, truth, falsity, compare, negation, conjunction, disjunction, implication, equivalence, exists, for-all, closure-of, compare-relations}
 use Rattle.definition.specs.Syntax as Syntax
 use Rattle.definition.specs.Syntax.{Item, rows, line-end, Program, end, assign, print, test, while, for, block}
-use Rattle.definition.specs.Names.{Role, before-terms, attribute-only, term, variable-only, after-for, enter, leave, Use, use-as, in-terms, in-expression, in-item, in-program}
+use Rattle.definition.specs.Names.{Role, attribute-only, term, variable-only, Use, use-as, in-terms, in-expression, in-item, in-program}
 use Rattle.words.specs.Fields.{word, kind-of, RELATION-NAME, ATTRIBUTE, TERM, WORD, BIND, RANGE, NEXT, ANYTHING, ATOM, TRUTH, FALSITY, ORDER, NEGATION, CONJUNCTION, DISJUNCTION, IMPLICATION, EQUIVALENCE, EXISTS, FOR-ALL, CLOSURE, COMPARISON, ROWS, SAY, LINE-END, ASSIGN, TEST, JUMP, AGAIN, PRINT, STRING}
-use Rattle.words.specs.Raw.{number, sign-number, leaf, leaves, size, flat, size-item, flat-item, size-items, flat-items, size-program, flat-program}
-use Rattle.words.specs.Tokens.{OwnName, OwnTerm, OwnTerms, OwnExpression, OwnItem, OwnItems, OwnProgram}
+use Rattle.words.specs.Raw.{number, sign-number, leaves, size, flat, size-item, flat-item, size-items, flat-items, size-program, flat-program}
+use Rattle.words.specs.Tokens.{OwnName, OwnTerms, OwnExpression, OwnItem, OwnItems, OwnProgram}
 use Rattle.words.specs.Shown.{role-of, Shows, none, other, named}
 use Rattle.words.proofs.FieldLaws.{kind-word, p-word, q-word}
 

@@ -1,13 +1,13 @@
 -- Where the words of a tree stand.
-use Prim.Native.Nat.{ℕ, suc, _+_, _-_, _≤_, _<_}
+use Prim.Native.Nat.{ℕ, suc, _+_, _≤_, _<_}
 use mathlib.Core.Path.{_≡_, refl, sym, ap, _∙_}
-use mathlib.Core.List.{List, [], _∷_, _++_}
+use mathlib.Core.List.{List, [], _∷_, _++_, append-assoc}
 use native.Mathlib.Omega.{arith}
 use native.Mathlib.Numerals.{add-one}
-use lib.ListN.{length, getD, take, drop, length-drop}
+use lib.ListN.{length, getD, take, drop, length-append, length-drop}
 use lib.Seq.{drop-cons}
 use Rattle.definition.specs.Syntax.{Expression}
-use Rattle.words.specs.Raw.{size, over, flat}
+use Rattle.words.specs.Raw.{size, flat}
 use Rattle.words.proofs.Sizes.{length-flat}
 use Rattle.words.specs.Standing.{Has}
 
@@ -18,6 +18,14 @@ has-append words n (x ∷ xs) ys h =
     let r = has-append words (n + 1) xs ys (h .1) in
     let e : n + suc (length xs) ≡ n + 1 + length xs = omega arith in
     ((h .0, r .0), rw e (r .1))
+
+-- words up to one of them, and those after it
+pub has-cut : (words : List ℕ) (n m : ℕ) (xs : List ℕ) (w : ℕ) (ys : List ℕ) → n + length xs + 1 ≡ m → Has words n (xs ++ (w ∷ ys)) → Has words n (xs ++ (w ∷ [])) × Has words m ys
+has-cut words n m xs w ys e h =
+    let g : Has words n ((xs ++ (w ∷ [])) ++ ys) = rw append-assoc h in
+    let a = has-append words n (xs ++ (w ∷ [])) ys g in
+    let j : n + length (xs ++ (w ∷ [])) ≡ m = omega (arith, e, length-append xs (w ∷ [])) in
+    (a .0, rw j at (a .1))
 
 -- the places of two operands and of the word over them
 pub record Two (words : List ℕ) (n w : ℕ) (a b : Expression) : Type 0 where

@@ -1,83 +1,47 @@
 -- A walk over the words finds the statements in order, each with its own words.
-use Prim.Native.Nat.{ℕ, zero, suc, _+_, _-_, _<_}
-use mathlib.Core.Path.{_≡_, refl, sym, ap, ap₂, _∙_}
+use Prim.Native.Nat.{ℕ, _+_, _<_}
+use mathlib.Core.Path.{_≡_, refl, sym, ap, _∙_}
 use mathlib.Core.List.{List, [], _∷_, _++_, append-assoc, append-nil}
 use native.Mathlib.Omega.{arith}
-use lib.ListN.{length, length-append}
-use Rattle.definition.specs.Syntax.{Term, name, string, anything, Expression, atom, truth, falsity, compare, negation, conjunction, disjunction, implication, equivalence, exists, for-all, closure-of, compare-relations}
-use Rattle.definition.specs.Syntax as Syntax
-use Rattle.definition.specs.Syntax.{Item, rows, line-end, Program, end, assign, print, test, while, for, block}
-use Rattle.words.specs.Fields.{word, kind-of, RELATION-NAME, ATTRIBUTE, TERM, WORD, BIND, RANGE, NEXT, ANYTHING, ATOM, TRUTH, FALSITY, ORDER, NEGATION, CONJUNCTION, DISJUNCTION, IMPLICATION, EQUIVALENCE, EXISTS, FOR-ALL, CLOSURE, COMPARISON, ROWS, SAY, LINE-END, ASSIGN, TEST, JUMP, AGAIN, PRINT, STRING}
-use Rattle.words.specs.Raw.{number, sign-number, leaf, leaves, size, flat, size-item, flat-item, size-items, flat-items, size-program, flat-program}
-use Rattle.words.specs.Parts.{ends, Part, part, turn, parts, owns}
+use borrow.Author.Tests.{ne-eqb}
+use lib.ListN.{length}
+use Rattle.definition.specs.Syntax.{Item, Program, end, assign, print, test, while, for, block}
+use Rattle.words.specs.Fields.{word, RELATION-NAME, ATTRIBUTE, BIND, RANGE, NEXT, ASSIGN, TEST, JUMP, AGAIN, PRINT, STRING}
+use Rattle.words.specs.Raw.{leaves, size, flat, size-items, flat-items, size-program, flat-program}
+use Rattle.words.specs.Parts.{ends, Part, part, parts, owns}
 use Rattle.words.proofs.FieldLaws.{kind-word}
+use Rattle.words.proofs.EachKind.{Each, Inner, each-leaves, each-expression, each-items}
 use Rattle.words.proofs.Sizes.{length-leaves, length-flat, length-items}
 
 -- words of no statement of their own
-Quiet : List ℕ → Type 0
-Quiet [] = Unit {0}
-Quiet (w ∷ ws) = (ends (kind-of w) ≡ 0) × Quiet ws
+abbrev pub quiet : ℕ → Type 0
+quiet k = ends k ≡ 0
 
-quiet-append : (xs ys : List ℕ) → Quiet xs → Quiet ys → Quiet (xs ++ ys)
-unfolding Quiet
-quiet-append [] ys h k = k
-quiet-append (x ∷ xs) ys h k = (h .0, quiet-append xs ys (h .1) k)
+abbrev pub Quiet : List ℕ → Type 0
+Quiet ws = Each quiet ws
 
-quiet-cons : (k p q r : ℕ) (ws : List ℕ) → k < 256 → ends k ≡ 0 → Quiet ws → Quiet (word k p q r ∷ ws)
-unfolding Quiet
-quiet-cons k p q r ws h e o = (rw (kind-word k p q r h) e, o)
-
-quiet-nil : Quiet []
-unfolding Quiet
-quiet-nil = tt
-
-quiet-last : (xs : List ℕ) (k p q r : ℕ) → k < 256 → ends k ≡ 0 → Quiet xs → Quiet (xs ++ (word k p q r ∷ []))
-quiet-last xs k p q r h e o = quiet-append xs (word k p q r ∷ []) o (quiet-cons k p q r [] h e quiet-nil)
-
-quiet-two : (xs ys : List ℕ) (k p q r : ℕ) → k < 256 → ends k ≡ 0 → Quiet xs → Quiet ys → Quiet (xs ++ (ys ++ (word k p q r ∷ [])))
-quiet-two xs ys k p q r h e o o′ = quiet-append xs _ o (quiet-last ys k p q r h e o′)
-
-quiet-leaves : (k : ℕ) (ps : List Term) → k < 8 → ends k ≡ 0 → ends (STRING + k) ≡ 0 → Quiet (leaves k ps)
-unfolding leaves ends
-quiet-leaves k [] h e f = quiet-nil
-quiet-leaves k (name t ∷ ps) h e f = quiet-cons k (number t) 0 0 (leaves k ps) (omega arith) e (quiet-leaves k ps h e f)
-quiet-leaves k (string t ∷ ps) h e f = quiet-cons (STRING + k) (number t) 0 0 (leaves k ps) (omega arith) f (quiet-leaves k ps h e f)
-quiet-leaves k (anything ∷ ps) h e f = quiet-cons ANYTHING 0 0 0 (leaves k ps) (omega arith) refl (quiet-leaves k ps h e f)
-
-quiet-terms : (ps : List Term) → Quiet (leaves TERM ps)
+ends-none : (k : ℕ) → (k ≡ ASSIGN → ⊥) → (k ≡ TEST → ⊥) → (k ≡ PRINT → ⊥) → (k ≡ RANGE → ⊥) → (k ≡ JUMP → ⊥) → (k ≡ AGAIN → ⊥) → (k ≡ NEXT → ⊥) → quiet k
 unfolding ends
-quiet-terms ps = quiet-leaves TERM ps (omega arith) refl refl
+ends-none k a b c d e f g = rw (ne-eqb k ASSIGN a, ne-eqb k TEST b, ne-eqb k PRINT c, ne-eqb k RANGE d, ne-eqb k JUMP e, ne-eqb k AGAIN f, ne-eqb k NEXT g) refl
 
-quiet-expression : (e : Expression) (n : ℕ) → Quiet (flat e n)
-unfolding flat ends
-quiet-expression (atom r ps) n = quiet-cons RELATION-NAME _ _ 0 _ (omega arith) refl (quiet-last (leaves TERM ps) ATOM _ _ 0 (omega arith) refl (quiet-terms ps))
-quiet-expression (truth ps) n = quiet-last (leaves TERM ps) TRUTH _ _ 0 (omega arith) refl (quiet-terms ps)
-quiet-expression (falsity ps) n = quiet-last (leaves TERM ps) FALSITY _ _ 0 (omega arith) refl (quiet-terms ps)
-quiet-expression (compare g p q) n = unfold leaves in quiet-last (leaves TERM (p ∷ q ∷ [])) ORDER _ _ 0 (omega arith) refl (quiet-terms (p ∷ q ∷ []))
-quiet-expression (negation e) n = quiet-last (flat e n) NEGATION _ 0 0 (omega arith) refl (quiet-expression e n)
-quiet-expression (conjunction a b) n = quiet-two _ _ CONJUNCTION _ _ 0 (omega arith) refl (quiet-expression a n) (quiet-expression b (n + size a))
-quiet-expression (disjunction a b) n = quiet-two _ _ DISJUNCTION _ _ 0 (omega arith) refl (quiet-expression a n) (quiet-expression b (n + size a))
-quiet-expression (implication a b) n = quiet-two _ _ IMPLICATION _ _ 0 (omega arith) refl (quiet-expression a n) (quiet-expression b (n + size a))
-quiet-expression (equivalence a b) n = quiet-two _ _ EQUIVALENCE _ _ 0 (omega arith) refl (quiet-expression a n) (quiet-expression b (n + size a))
-quiet-expression (exists x e) n = quiet-cons ATTRIBUTE _ 0 0 _ (omega arith) refl (quiet-last (flat e (n + 1)) EXISTS _ _ 0 (omega arith) refl (quiet-expression e (n + 1)))
-quiet-expression (for-all x e) n = quiet-cons ATTRIBUTE _ 0 0 _ (omega arith) refl (quiet-last (flat e (n + 1)) FOR-ALL _ _ 0 (omega arith) refl (quiet-expression e (n + 1)))
-quiet-expression (closure-of e) n = quiet-last (flat e n) CLOSURE _ 0 0 (omega arith) refl (quiet-expression e n)
-quiet-expression (compare-relations g a b) n = quiet-two _ _ COMPARISON _ _ (sign-number g) (omega arith) refl (quiet-expression a n) (quiet-expression b (n + size a))
+quiet-low : (k : ℕ) → k < 6 → quiet k
+quiet-low k h = ends-none k (λ e. omega arith) (λ e. omega arith) (λ e. omega arith) (λ e. omega arith) (λ e. omega arith) (λ e. omega arith) (λ e. omega arith)
 
-quiet-item : (i : Item) (n : ℕ) → Quiet (flat-item i n)
-unfolding flat-item ends
-quiet-item (rows ps e) n = quiet-two (leaves WORD ps) _ ROWS _ _ 0 (omega arith) refl (quiet-leaves WORD ps (omega arith) refl refl) (quiet-expression e (n + length ps))
-quiet-item (Syntax.word p) n = unfold leaves in quiet-last (leaves WORD (p ∷ [])) SAY n 0 0 (omega arith) refl (quiet-leaves WORD (p ∷ []) (omega arith) refl refl)
-quiet-item line-end n = quiet-cons LINE-END 0 0 0 [] (omega arith) refl quiet-nil
+quiet-middle : (k : ℕ) → 7 < k → k < 33 → quiet k
+quiet-middle k l h = ends-none k (λ e. omega arith) (λ e. omega arith) (λ e. omega arith) (λ e. omega arith) (λ e. omega arith) (λ e. omega arith) (λ e. omega arith)
 
-quiet-items : (is : List Item) (n : ℕ) → Quiet (flat-items is n)
-unfolding flat-items
-quiet-items [] n = quiet-nil
-quiet-items (i ∷ is) n = quiet-append (flat-item i n) _ (quiet-item i n) (quiet-items is (n + size-item i))
+quiet-high : (k : ℕ) → 37 < k → quiet k
+quiet-high k l = ends-none k (λ e. omega arith) (λ e. omega arith) (λ e. omega arith) (λ e. omega arith) (λ e. omega arith) (λ e. omega arith) (λ e. omega arith)
+
+pub quiet-inner : Inner quiet
+quiet-inner = record { names = λ k l h. (quiet-low k (omega arith), quiet-high (STRING + k) (omega arith)); nodes = λ k l h. quiet-middle k (omega arith) (omega arith) }
+
+pub quiet-items : (is : List Item) (n : ℕ) → Quiet (flat-items is n)
+quiet-items = each-items quiet quiet-inner (λ k l h. quiet-middle k (omega arith) h)
 
 -- the walk passes quiet words
 pass : (xs ys : List ℕ) (s k m : ℕ) {os : List Part} → Quiet xs → k + length xs ≡ m → parts ys s m ≡ os → parts (xs ++ ys) s k ≡ os
-unfolding parts Quiet
+unfolding parts Each
 pass [] ys s k m h e f = let i : k ≡ m = omega (arith, e) in rw i f
 pass (x ∷ xs) ys s k m h e f = rw (h .0) (pass xs ys s (k + 1) m (h .1) (omega (arith, e)) f)
 
@@ -106,8 +70,8 @@ parts-then (assign i r ps e k) n m rest l =
     let j = n + 1 + length ps + size e in
     simp append-assoc
     (pass-one RELATION-NAME _ _ 0 n n _ (omega arith) refl
-    (pass (leaves ATTRIBUTE ps) _ n (n + 1) (n + 1 + length ps) (quiet-leaves ATTRIBUTE ps (omega arith) refl refl) (omega (arith, length-leaves ATTRIBUTE ps))
-    (pass (flat e (n + 1 + length ps)) _ n (n + 1 + length ps) j (quiet-expression e _) (omega (arith, length-flat e (n + 1 + length ps)))
+    (pass (leaves ATTRIBUTE ps) _ n (n + 1) (n + 1 + length ps) (each-leaves quiet quiet-inner ATTRIBUTE ps (omega arith) (omega arith)) (omega (arith, length-leaves ATTRIBUTE ps))
+    (pass (flat e (n + 1 + length ps)) _ n (n + 1 + length ps) j (each-expression quiet quiet-inner e _) (omega (arith, length-flat e (n + 1 + length ps)))
     (ended ASSIGN _ _ i n j _ (omega arith) refl (parts-then k (j + 1) m rest (omega (arith, l)))))))
 parts-then (print i is k) n m rest l =
     simp append-assoc
@@ -117,7 +81,7 @@ parts-then (test i e a b k) n m rest l =
     let j = n + size e + 1 in
     let f = j + size-program a + 1 in
     simp append-assoc
-    (pass (flat e n) _ n n (n + size e) (quiet-expression e n) (omega (arith, length-flat e n))
+    (pass (flat e n) _ n n (n + size e) (each-expression quiet quiet-inner e n) (omega (arith, length-flat e n))
     (ended TEST 0 f i n (n + size e) _ (omega arith) refl
     (after-block (flat-program a j) _ j (j + size-program a) (owns a j) (parts-then a j (j + size-program a) _ refl)
     (between JUMP 0 _ 0 (j + size-program a) (j + size-program a) _ (omega arith) refl
@@ -126,7 +90,7 @@ parts-then (while i e a k) n m rest l =
     let j = n + size e + 1 in
     let f = j + size-program a + 1 in
     simp append-assoc
-    (pass (flat e n) _ n n (n + size e) (quiet-expression e n) (omega (arith, length-flat e n))
+    (pass (flat e n) _ n n (n + size e) (each-expression quiet quiet-inner e n) (omega (arith, length-flat e n))
     (ended TEST 0 f i n (n + size e) _ (omega arith) refl
     (after-block (flat-program a j) _ j (j + size-program a) (owns a j) (parts-then a j (j + size-program a) _ refl)
     (between AGAIN _ j 0 (j + size-program a) (j + size-program a) _ (omega arith) refl (parts-then k f m rest (omega (arith, l)))))))
@@ -135,7 +99,7 @@ parts-then (for i v e a k) n m rest l =
     let f = j + size-program a in
     simp append-assoc
     (pass-one BIND _ 0 0 n n _ (omega arith) refl
-    (pass (flat e (n + 1)) _ n (n + 1) (n + 1 + size e) (quiet-expression e (n + 1)) (omega (arith, length-flat e (n + 1)))
+    (pass (flat e (n + 1)) _ n (n + 1) (n + 1 + size e) (each-expression quiet quiet-inner e (n + 1)) (omega (arith, length-flat e (n + 1)))
     (ended RANGE _ f i n (n + 1 + size e) _ (omega arith) refl
     (after-block (flat-program a j) _ j f (owns a j) (parts-then a j f _ refl)
     (between NEXT _ j 0 f f _ (omega arith) refl (parts-then k (f + 1) m rest (omega (arith, l))))))))
