@@ -9,6 +9,11 @@ unfolding some-of
 some-append p [] ys = refl
 some-append p (x ∷ xs) ys = ap (λ (b : Bool). p x || b) (some-append p xs ys) ∙ sym (or-assoc (p x) (some-of p xs) (some-of p ys))
 
+pub some-gather : {A B : Type 0} (p : B → Bool) (f : A → List B) (xs : List A) → some-of p (gather f xs) ≡ some-of (λ x. some-of p (f x)) xs
+unfolding some-of gather
+some-gather p f [] = refl
+some-gather p f (x ∷ xs) = some-append p (f x) (gather f xs) ∙ ap (λ (b : Bool). some-of p (f x) || b) (some-gather p f xs)
+
 pub all-append : {A : Type 0} (p : A → Bool) (xs ys : List A) → all-of p (xs ++ ys) ≡ all-of p xs && all-of p ys
 unfolding all-of
 all-append p [] ys = refl
