@@ -1,12 +1,12 @@
 -- A part of the store written word by word, lent again and given back.
-use Prim.Native.Nat.{ℕ, suc, _+_, _-_, _%_, _<_, _≤_}
+use Prim.Native.Nat.{ℕ, _+_, _%_, _<_, _≤_}
 use mathlib.Core.Path.{_≡_, refl, sym, ap, ap₂, _∙_}
 use mathlib.Core.Bool.{Bool}
 use mathlib.Core.List.{List, [], _∷_, _++_, append-assoc}
 use native.Mathlib.Nat.{le-of-eq, le-add-right}
 use native.Mathlib.Omega.{arith}
 use native.Mathlib.Numerals.{add-one}
-use borrow.Author.Tests.{le-ltb, ne-eqb}
+use borrow.Author.Tests.{le-ltb}
 use borrow.Rule.Slice.PartMut.{midOf, putMid}
 use lib.ListN.{length, getD, set, take, drop, length-set, List·getD-eq-default}
 use lib.Seq.{paste, paste-zero, paste-suc, take-set-le, take-all, take-at, drop-at, length-take-le, sets, sets-eq}
@@ -14,7 +14,7 @@ use Rattle.definition.specs.Text.{below}
 use Rattle.definition.specs.Tables.{Tuple, table, joins, through, through-all, closure}
 use Rattle.closure.proofs.Laws.{rows-table, table-rows}
 use Rattle.closure.specs.Rows.{Rows}
-use Rattle.eval.specs.Nodes.{Node, no, node, node-at, child-at}
+use Rattle.eval.specs.Nodes.{node, node-at, child-at}
 use Rattle.eval.proofs.Trees.{node-step}
 
 -- l is d with the first j elements of s from index at on: what a loop has made of d before its turn j
