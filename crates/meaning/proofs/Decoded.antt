@@ -1,5 +1,5 @@
 -- The node at a place, by the fields of its word.
-use Prim.Native.Nat.{ℕ, _+_, _-_, _%_, _<_}
+use Prim.Native.Nat.{ℕ, _%_, _<_}
 use mathlib.Core.Path.{_≡_, refl, sym, ap, ap₂, _∙_}
 use mathlib.Core.Bool.{Bool, true, false, cond}
 use mathlib.Core.List.{List}
@@ -11,9 +11,9 @@ use Rattle.definition.specs.Token.{Token, Sign, equal, unequal, less, at-most, 
 use Rattle.definition.specs.Syntax.{Term, Expression}
 use Rattle.definition.specs.Accept.{Accepted}
 use Rattle.definition.proofs.RelationLaws.{place-of}
-use Rattle.words.specs.Fields.{kind-of, p-of, q-of, TRUTH, FALSITY, NEGATION, CLOSURE, COMPARISON}
+use Rattle.words.specs.Fields.{kind-of, p-of, q-of, TRUTH, FALSITY, NEGATION}
 use Rattle.words.specs.Raw.{sign-number}
-use Rattle.eval.specs.Nodes.{Node, operand, operands, operands-of, sign, node, atom-of, node-at, child-at, a-of, b-of, c-of, d-of, n-of}
+use Rattle.eval.specs.Nodes.{Node, operand, operands, operands-of, sign, node, atom-of, node-at, child-at, a-of, b-of, c-of, d-of}
 use Rattle.eval.specs.Nodes as Nodes
 use Rattle.eval.proofs.Trees.{node-step, child-below}
 use Rattle.meaning.specs.Lowered.{Atom, Order, One, Two, Quantifier, Closure, Comparison}

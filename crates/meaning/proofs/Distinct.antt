@@ -1,5 +1,4 @@
 -- The free attributes of an expression are listed once each.
-use mathlib.Core.Path.{_≡_, refl}
 use mathlib.Core.Logic.{_⊎_, inl, inr}
 use mathlib.Core.Bool.{Bool, true, false, not, _||_, cond}
 use mathlib.Core.List.{List, [], _∷_, _++_}
@@ -8,27 +7,11 @@ use Rattle.definition.specs.Text.{Text, same, member, some-of, keep}
 use Rattle.definition.specs.Syntax.{Term, name, string, anything, Expression, atom, truth, falsity, compare, negation, conjunction, disjunction, implication, equivalence, exists, for-all, closure-of, compare-relations}
 use Rattle.definition.specs.Names.{free, join, attributes}
 use Rattle.definition.proofs.BoolLaws.{or-cases, or-left, or-right, not-both}
-use Rattle.definition.proofs.MeaningLaws.{same-eq, same-refl}
+use Rattle.definition.proofs.MeaningLaws.{member-first, member-later, kept-member}
 
 unfoldable pub Distinct : List Text → Type 0
 Distinct [] = Unit {0}
 Distinct (x ∷ xs) = T (not (member x xs)) × Distinct xs
-
-kept-member : (p : Text → Bool) (y : Text) (zs : List Text) → T (member y (keep p zs)) → T (member y zs) × T (p y)
-unfolding member some-of keep
-kept-member p y [] m = absurd m
-kept-member p y (z ∷ zs) m = go (p z) refl m (kept-member p y zs)
-  where
-    later : T (member y zs) × T (p y) → T (same y z || member y zs) × T (p y)
-    later r = (or-right (same y z) (member y zs) (r .0), r .1)
-
-    go : (b : Bool) → p z ≡ b → T (member y (cond b (z ∷ keep p zs) (keep p zs))) → (T (member y (keep p zs)) → T (member y zs) × T (p y)) → T (same y z || member y zs) × T (p y)
-    go false e m ih = later (ih m)
-    go true e m ih = here (or-cases (same y z) (member y (keep p zs)) m)
-      where
-        here : T (same y z) ⊎ T (member y (keep p zs)) → T (same y z || member y zs) × T (p y)
-        here (inl s) = (or-left (same y z) (member y zs) s, rw (same-eq y z s, e) tt)
-        here (inr m) = later (ih m)
 
 keep-distinct : (p : Text → Bool) (xs : List Text) → Distinct xs → Distinct (keep p xs)
 unfolding Distinct keep
@@ -57,12 +40,12 @@ unfolding Distinct
 append-distinct [] ys d e h = e
 append-distinct (x ∷ xs) ys d e h = (
   not-T (member x (xs ++ ys)) (λ m. go (in-append x xs ys m)),
-  append-distinct xs ys (d .1) e (λ y m. not-T (member y xs) (λ k. not-both (member y (x ∷ xs)) (unfold member some-of in or-right (same y x) (member y xs) k) (h y m))),
+  append-distinct xs ys (d .1) e (λ y m. not-T (member y xs) (λ k. not-both (member y (x ∷ xs)) (member-later x y xs k) (h y m))),
 )
   where
     go : T (member x xs) ⊎ T (member x ys) → ⊥
     go (inl m) = not-both (member x xs) m (d .0)
-    go (inr m) = not-both (member x (x ∷ xs)) (unfold member some-of in or-left (same x x) (member x xs) (same-refl x)) (h x m)
+    go (inr m) = not-both (member x (x ∷ xs)) (member-first x xs) (h x m)
 
 join-distinct : (xs ys : List Text) → Distinct xs → Distinct ys → Distinct (join xs ys)
 unfolding join

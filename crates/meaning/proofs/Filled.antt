@@ -1,37 +1,36 @@
 -- The closures of a statement, filled in ascending order, stand in their tables.
-use Prim.Native.Nat.{ℕ, zero, suc, _+_, _-_, _*_, _%_, _<_, _≤_}
+use Prim.Native.Nat.{ℕ, zero, suc, _+_, _*_, _%_, _<_, _≤_}
 use mathlib.Core.Path.{_≡_, refl, sym, ap, ap₂, subst, _∙_}
-use mathlib.Core.Bool.{Bool, true, false, not, cond}
+use mathlib.Core.Bool.{Bool, true, false, cond}
 use mathlib.Core.List.{List, [], _∷_, _++_, map, append-assoc}
 use native.Mathlib.Nat.{le-refl, mul-le-mul-right, add-zero, zero-add, add-suc, suc-add, suc-mul}
-use native.Mathlib.Numerals.{add-one}
 use native.Mathlib.Omega.{arith}
 use lib.Dec.{T}
 use lib.ListN.{length, getD, set, replicate, take, drop, length-append, List·getD-append}
-use lib.Seq.{sets, sets-eq, length-sets, length-take-le, take-at, take-take, take-all, getD-append-add, getD-drop, getD-take, set-comm}
+use lib.Seq.{sets, sets-eq, length-sets, length-take-le, take-at, take-take, getD-append-add, getD-drop, getD-take, set-comm}
 use Rattle.definition.specs.Text.{Text, member, some-of, all-of}
 use Rattle.definition.specs.Syntax.{Expression, atom, truth, falsity, compare, negation, conjunction, disjunction, implication, equivalence, exists, for-all, closure-of, compare-relations}
 use Rattle.definition.specs.Names.{free, closures}
-use Rattle.definition.specs.Tables.{Tuple, bit, holds, table, closure, word}
+use Rattle.definition.specs.Tables.{Tuple, bit, holds, table, closure}
 use Rattle.definition.specs.Accept.{Accepted, elements}
 use Rattle.definition.specs.Meaning.{Tables, Environment, bind, bind-all, mean, nowhere}
 use Rattle.definition.specs.Meaning as Definition
 use Rattle.definition.proofs.BoolLaws.{not-both}
-use Rattle.definition.proofs.MeaningLaws.{same-refl}
+use Rattle.definition.proofs.MeaningLaws.{member-first}
 use Rattle.bits.proofs.Laws.{word-same}
 use Rattle.closure.proofs.Laws.{row-table, rows-table, table-of-rows}
-use Rattle.words.specs.Fields.{kind-of, p-of}
+use Rattle.words.specs.Fields.{kind-of}
 use Rattle.words.specs.Raw.{size}
-use Rattle.eval.specs.Nodes.{Node, slot, operand, node-at, child-at, a-of, b-of, c-of}
-use Rattle.eval.specs.Meaning.{World, world, closure-at, meaning, closed}
+use Rattle.eval.specs.Nodes.{slot, operand, node-at, child-at, a-of, b-of}
+use Rattle.eval.specs.Meaning.{world, closure-at, meaning}
 use Rattle.eval.proofs.Operands.{holds-pair}
 use Rattle.eval.proofs.Trees.{child-below}
-use Rattle.closures.specs.Filling.{fill-at, fill-word, fill-words}
+use Rattle.closures.specs.Filling.{fill-word, fill-words}
 use Rattle.closures.proofs.Parts.{closure-length}
 use Rattle.closures.proofs.Fills.{fill-other, fill-here}
-use Rattle.meaning.specs.Lowered.{root, closure-count, Naming, Leaves, Lowered, Closure}
+use Rattle.meaning.specs.Lowered.{root, closure-count, Naming, Lowered}
 use Rattle.meaning.specs.Ready.{Loops, Fits, Tabled, Closes, Held}
-use Rattle.meaning.proofs.Fit.{fits-bind, head-in, rest-in}
+use Rattle.meaning.proofs.Fit.{fits-bind, rest-in}
 use Rattle.meaning.proofs.Distinct.{Distinct, free-distinct}
 use Rattle.meaning.proofs.Means.{root-last, means}
 
@@ -40,7 +39,7 @@ neither true e = omega arith
 neither false e = omega arith
 
 same-in : (x y : Text) → x ≡ y → T (member x (y ∷ []))
-same-in x y e = rw e (head-in y [])
+same-in x y e = rw e (member-first y [])
 
 -- a part written into a list
 module _ (l : List ℕ) (o : ℕ) (b : List ℕ) (fits : o + length b ≤ length l) where
@@ -187,6 +186,13 @@ module _ (w : Accepted) (β : Text → ℕ) (loops : List Text) (vs : List ℕ) 
         pub front : take (end c) t ≡ take (end c) s
         pub held : Kept t e c
 
+      -- where its closures are filled, its node means what it means, if at least the words before b are lent
+      held-means : (e : Expression) (n c : ℕ) (t : List ℕ) (b : ℕ) (env : Environment) (σ : List ℕ) → Low e n c → Kept t e c → take base t ≡ p → end (c + closure-count e) ≤ b
+          → Fits w β loops vs (free (w .variables) e) env σ → meaning (world (take b t) firsts vs u) (node-at low (root e n)) σ ≡ mean w ts env e
+      held-means e n c t b env σ l h q k f =
+          means w β loops vs naming low ts (take b t) firsts (tables (take b t) (take-take base b t (omega arith) ∙ q)) e n c env σ l
+          (held-kept e n c t (take b t) b l k (take-take b b t (le-refl b)) h) f
+
       -- one closure more, in the table after those of what it encloses
       closes : (e : Expression) (n c : ℕ) (s : List ℕ) → Low (closure-of e) n c → end 16 ≤ length s → take base s ≡ p → Kept s e c
           → Filled s (fill-word firsts vs u low (n + size e) s) (closure-of e) c
@@ -212,8 +218,8 @@ module _ (w : Accepted) (β : Text → ℕ) (loops : List Text) (vs : List ℕ) 
           let inside : (env : Environment) → Loops w β loops vs env → table u 2 f ≡ table u 2 (λ t. mean w ts (bind-all (free (w .variables) e) t env) e) =
           λ env v. table-same u f (λ t. mean w ts (bind-all (free (w .variables) e) t env) e)
           (λ a b ha hb.
-          means w β loops vs naming low ts (take o s) firsts (tables (take o s) (take-take base o s (omega arith) ∙ q)) e n c (bind-all (free (w .variables) e) (a ∷ b ∷ []) env) (set (set (replicate 8 0) X a) Y b) (l .0)
-          (held-kept e n c s (take o s) o (l .0) (le-refl o) (take-take o o s (le-refl o)) k) (pair-fits (free (w .variables) e) X Y a b env (C .slots) (free-distinct (w .variables) e) ha hb v)) in
+          held-means e n c s o (bind-all (free (w .variables) e) (a ∷ b ∷ []) env) (set (set (replicate 8 0) X a) Y b) (l .0) k q (le-refl o)
+          (pair-fits (free (w .variables) e) X Y a b env (C .slots) (free-distinct (w .variables) e) ha hb v)) in
           subst (λ (r : List ℕ). Filled s r (closure-of e) c) here
           (record {
             long = length-sets s o block;
@@ -311,10 +317,3 @@ module _ (w : Accepted) (β : Text → ℕ) (loops : List Text) (vs : List ℕ) 
           let f = filled x n c s (l .0) room q in
           joined x y (compare-relations g x y) n c s (λ r k. k) (l .0) (l .1 .1 .two .kind) (λ z. absurd (omega arith)) f
           (filled y (n + size x) (c + closure-count x) (fill-of x n s) (l .1 .0) (room-after x c s (fill-of x n s) f room) (base-after x c s (fill-of x n s) f q))
-
-      -- and then its node means what it means, where at least the words before b are lent
-      pub held-means : (e : Expression) (n c : ℕ) (t : List ℕ) (b : ℕ) (env : Environment) (σ : List ℕ) → Low e n c → Kept t e c → take base t ≡ p → end (c + closure-count e) ≤ b
-          → Fits w β loops vs (free (w .variables) e) env σ → meaning (world (take b t) firsts vs u) (node-at low (root e n)) σ ≡ mean w ts env e
-      held-means e n c t b env σ l h q k f =
-          means w β loops vs naming low ts (take b t) firsts (tables (take b t) (take-take base b t (omega arith) ∙ q)) e n c env σ l
-          (held-kept e n c t (take b t) b l k (take-take b b t (le-refl b)) h) f

@@ -1,21 +1,21 @@
 -- An assignment that stands for an environment goes on to do so where names are bound.
-use Prim.Native.Nat.{ℕ, zero, suc, _+_, _-_, _<_}
-use mathlib.Core.Path.{_≡_, refl, sym, ap, ap₂, _∙_}
+use Prim.Native.Nat.{ℕ, _-_, _<_}
+use mathlib.Core.Path.{_≡_, refl, sym, ap, _∙_}
 use mathlib.Core.Logic.{_⊎_, inl, inr}
-use mathlib.Core.Bool.{Bool, true, false, not, _||_, cond}
+use mathlib.Core.Bool.{Bool, true, false, not, cond}
 use mathlib.Core.List.{List, [], _∷_, map}
 use native.Mathlib.Omega.{arith}
 use borrow.Author.Tests.{ltb-true}
 use lib.Dec.{T, eqb, ltb}
-use lib.ListN.{length, getD, set, length-set}
+use lib.ListN.{length, set, length-set}
 use lib.Seq.{getD-set-same, getD-set-other}
 use Rattle.definition.specs.Text.{Text, same, member, some-of}
 use Rattle.definition.specs.Tables.{Tuple}
 use Rattle.definition.specs.Accept.{Accepted, elements}
 use Rattle.definition.specs.Meaning.{Environment, bind, bind-all}
-use Rattle.definition.proofs.BoolLaws.{or-cases, or-left, or-right, decide, is-true, is-false, not-both}
+use Rattle.definition.proofs.BoolLaws.{or-cases, decide, is-true, is-false, not-both}
 use Rattle.definition.proofs.TableLaws.{Below}
-use Rattle.definition.proofs.MeaningLaws.{same-eq, same-refl}
+use Rattle.definition.proofs.MeaningLaws.{same-eq, same-refl, member-first, member-later}
 use Rattle.eval.specs.Nodes.{Operand, element, slot, variable, any, absent, operand}
 use Rattle.eval.specs.Meaning.{choices}
 use Rattle.meaning.specs.Lowered.{Naming}
@@ -55,14 +55,6 @@ unfolding bind
 bound-else x y a env n = rw (is-false (same x y) n) refl
 
 -- members of a list with one name more
-pub head-in : (x : Text) (xs : List Text) → T (member x (x ∷ xs))
-unfolding member some-of
-head-in x xs = or-left (same x x) (member x xs) (same-refl x)
-
-pub tail-in : (x y : Text) (xs : List Text) → T (member y xs) → T (member y (x ∷ xs))
-unfolding member some-of
-tail-in x y xs m = or-right (same y x) (member y xs) m
-
 pub rest-in : (x y : Text) (xs : List Text) → T (member y (x ∷ xs)) → T (not (same x y)) → T (member y xs)
 unfolding member some-of
 rest-in x y xs m n = go (or-cases (same y x) (member y xs) m)
@@ -124,4 +116,4 @@ module _ (w : Accepted) (β : Text → ℕ) (loops : List Text) (vs : List ℕ) 
   fits-all [] t s b l f = f
   fits-all (x ∷ xs) [] s b l f = absurd (omega arith)
   fits-all (x ∷ xs) (a ∷ t) s b l f =
-      fits-bind {xs = xs} {ys = x ∷ xs} x (β x - 64) a (s x (head-in x xs)) (b .0) (λ y m n. rest-in x y xs m n) (fits-all xs t (λ y m. s y (tail-in x y xs m)) (b .1) (omega arith) f)
+      fits-bind {xs = xs} {ys = x ∷ xs} x (β x - 64) a (s x (member-first x xs)) (b .0) (λ y m n. rest-in x y xs m n) (fits-all xs t (λ y m. s y (member-later x y xs m)) (b .1) (omega arith) f)

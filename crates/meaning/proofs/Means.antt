@@ -4,48 +4,32 @@ use mathlib.Core.Path.{_≡_, refl, sym, ap, ap₂, _∙_}
 use mathlib.Core.Bool.{Bool, true, false, not, _||_, _&&_, Bool·beq, cond}
 use mathlib.Core.List.{List, [], _∷_, map}
 use native.Mathlib.Omega.{arith}
-use borrow.Author.Tests.{ne-eqb, lt-ltb, le-ltb, ltb-true, ltb-false}
+use borrow.Author.Tests.{ne-eqb, ltb-true, ltb-false}
 use lib.Dec.{T, eqb, ltb}
 use lib.ListN.{length, getD, set}
-use Rattle.definition.specs.Text.{Text, same, member, some-of, all-of, keep, below}
-use Rattle.definition.specs.Token.{Token, Sign}
+use Rattle.definition.specs.Text.{Text, same, member, some-of, all-of, below}
 use Rattle.definition.specs.Syntax.{Expression, atom, truth, falsity, compare, negation, conjunction, disjunction, implication, equivalence, exists, for-all, closure-of, compare-relations}
-use Rattle.definition.specs.Names.{free, join, attributes}
+use Rattle.definition.specs.Names.{free, join}
 use Rattle.definition.specs.Tables.{Tuple, bit, holds, table, tuples, closure}
 use Rattle.definition.specs.Accept.{Accepted, elements}
 use Rattle.definition.specs.Meaning as Definition
 use Rattle.definition.specs.Meaning.{nowhere, Tables, Environment, bind, bind-all, table-of, mean, compares, compares-relations}
 use Rattle.definition.proofs.TableLaws.{Below}
-use Rattle.definition.proofs.MeaningLaws.{other, member-keep, member-join-left, member-join-right}
+use Rattle.definition.proofs.MeaningLaws.{other, member-first, member-later, member-keep, member-join-left, member-join-right}
 use Rattle.definition.proofs.RelationLaws.{place-of}
 use Rattle.words.specs.Fields.{p-of}
 use Rattle.words.specs.Raw.{size}
+use Rattle.words.proofs.Sizes.{size-pos}
 use Rattle.eval.specs.Nodes.{Node, slot, operand, operands, operands-of, node-at, a-of, b-of, d-of}
 use Rattle.eval.specs.Nodes as Nodes
-use Rattle.eval.specs.Meaning.{World, world, table-at, closure-at, choices, readings, throughout, meaning}
-use Rattle.meaning.specs.Lowered.{root, closure-count, Naming, none, more, Atom, Comparison, Quantifier, Lowered}
+use Rattle.eval.specs.Meaning.{World, world, table-at, choices, throughout, meaning}
+use Rattle.meaning.specs.Lowered.{root, closure-count, Naming, none, more, Lowered}
 use Rattle.meaning.specs.Ready.{Fits, Tabled, Held}
 use Rattle.meaning.proofs.Numbers.{some-same, all-same, all-gather}
 use Rattle.meaning.proofs.Slots.{set-all, In, Under, under, tuples-mask}
-use Rattle.meaning.proofs.Fit.{slot-low, head-in, tail-in, weaken, fits-bind, slots, fits-all}
+use Rattle.meaning.proofs.Fit.{slot-low, weaken, fits-bind, slots, fits-all}
 use Rattle.meaning.proofs.Terms.{readings-same, some-readings, truth-readings}
-use Rattle.meaning.proofs.Decoded.{truth-node, by-kind, atom-node, order-node, negation-node, conjunction-node, disjunction-node, implication-node, equivalence-node, exists-node, for-all-node, closure-node, comparison-node}
-
-pub size-pos : (e : Expression) → 0 < size e
-unfolding size
-size-pos (atom r ps) = omega arith
-size-pos (truth ps) = omega arith
-size-pos (falsity ps) = omega arith
-size-pos (compare g p q) = omega arith
-size-pos (negation e) = omega arith
-size-pos (conjunction a b) = omega arith
-size-pos (disjunction a b) = omega arith
-size-pos (implication a b) = omega arith
-size-pos (equivalence a b) = omega arith
-size-pos (exists x e) = omega arith
-size-pos (for-all x e) = omega arith
-size-pos (closure-of e) = omega arith
-size-pos (compare-relations g a b) = omega arith
+use Rattle.meaning.proofs.Decoded.{truth-node, atom-node, order-node, negation-node, conjunction-node, disjunction-node, implication-node, equivalence-node, exists-node, for-all-node, closure-node, comparison-node}
 
 -- an expression's own word is its last
 pub root-last : (e : Expression) (n : ℕ) → root e n < n + size e
@@ -79,7 +63,7 @@ map-length β (x ∷ xs) = ap suc (map-length β xs)
 slots-under : (β : Text → ℕ) (xs : List Text) → ((x : Text) → T (member x xs) → operand (β x) ≡ slot (β x - 64)) → Under 8 (map (λ x. β x - 64) xs)
 unfolding Under
 slots-under β [] s = tt
-slots-under β (x ∷ xs) s = (slot-low (β x) (β x - 64) (s x (head-in x xs)), slots-under β xs (λ y m. s y (tail-in x y xs m)))
+slots-under β (x ∷ xs) s = (slot-low (β x) (β x - 64) (s x (member-first x xs)), slots-under β xs (λ y m. s y (member-later x y xs m)))
 
 module _ (w : Accepted) (β : Text → ℕ) (loops : List Text) (vs : List ℕ) (naming : Naming β loops) where
   abbrev u : ℕ
@@ -120,8 +104,8 @@ module _ (w : Accepted) (β : Text → ℕ) (loops : List Text) (vs : List ℕ) 
   at-slots (x ∷ []) i j env σ e f = let z : _≡_ {A = ℕ} 0 1 = cc in absurd (omega arith)
   at-slots (x ∷ y ∷ z ∷ xs) i j env σ e f = let z : _≡_ {A = ℕ} 0 1 = cc in absurd (omega arith)
   at-slots (x ∷ y ∷ []) i j env σ e f =
-      let mx : T (member x (x ∷ y ∷ [])) = head-in x (y ∷ []) in
-      let my : T (member y (x ∷ y ∷ [])) = tail-in x y (y ∷ []) (head-in y []) in
+      let mx : T (member x (x ∷ y ∷ [])) = member-first x (y ∷ []) in
+      let my : T (member y (x ∷ y ∷ [])) = member-later x y (y ∷ []) (member-first y []) in
       let ox : operand (β x) ≡ slot i = cc in
       let oy : operand (β y) ≡ slot j = cc in
       let vx : getD σ i 0 ∷ [] ≡ env x ∷ [] = ap (choices u vs σ) (sym ox) ∙ f .value x mx in

@@ -1,26 +1,19 @@
 -- Tests over the numbers below u, and over tuples.
 use Prim.Native.Nat.{ℕ, zero, suc, _+_, _<_, _≤_}
-use mathlib.Core.Path.{_≡_, refl, sym, ap, ap₂, _∙_, fun-ext}
-use mathlib.Core.Bool.{Bool, true, false, _||_, _&&_}
-use mathlib.Core.List.{List, [], _∷_, _++_, map}
-use native.Mathlib.Nat.{not-suc-le-zero, le-refl}
+use mathlib.Core.Path.{_≡_, refl, sym, ap, ap₂, _∙_}
+use mathlib.Core.Bool.{Bool, true, false, _||_, _&&_, and-eq-true-iff}
+use mathlib.Core.List.{List, [], _∷_, map}
 use native.Mathlib.Omega.{arith}
 use borrow.Author.Tests.{eqb-true, eqb-false}
 use lib.Dec.{eqb}
 use Rattle.definition.specs.Text.{some-of, all-of, gather, from, below}
 use Rattle.definition.specs.Tables.{Tuple}
-
-pub both-true : (a b : Bool) → a && b ≡ true → (a ≡ true) × (b ≡ true)
-both-true true b e = (refl, e)
-both-true false b e = (e, absurd (let z : _≡_ {A = ℕ} 0 1 = cc in omega arith))
+use Rattle.definition.proofs.ListLaws.{all-append}
 
 pub bool-ext : (a b : Bool) → (a ≡ true → b ≡ true) → (b ≡ true → a ≡ true) → a ≡ b
 bool-ext true b f g = sym (f refl)
 bool-ext false true f g = g refl
 bool-ext false false f g = refl
-
-pub never : {A : Type 0} (b : Bool) → b ≡ true → b ≡ false → A
-never b e f = let z : _≡_ {A = ℕ} 0 1 = cc in absurd (omega arith)
 
 -- equal tests where they count
 some-from : (f g : ℕ → Bool) (n a u : ℕ) → a + n ≤ u → ((v : ℕ) → v < u → f v ≡ g v) → some-of f (from n a) ≡ some-of g (from n a)
@@ -52,7 +45,7 @@ all-one : (f : ℕ → Bool) (n a v : ℕ) → a ≤ v → v < a + n → all-of 
 unfolding all-of from
 all-one f zero a v l h e = absurd (omega arith)
 all-one f (suc n) a v l h e =
-    let p = both-true (f a) (all-of f (from n (suc a))) e in
+    let p = and-eq-true-iff (f a) (all-of f (from n (suc a))) .0 e in
     go (eqb a v) refl (p .0) (λ i j. all-one f n (suc a) v i j (p .1))
   where
     go : (b : Bool) → eqb a v ≡ b → f a ≡ true → (suc a ≤ v → v < suc a + n → f v ≡ true) → f v ≡ true
@@ -63,15 +56,6 @@ pub all-elim : (f : ℕ → Bool) (u v : ℕ) → all-of f (below u) ≡ true �
 all-elim f u v e h = all-one f u 0 v (omega arith) (omega arith) e
 
 -- tuples by their first element
-and-assoc : (a b c : Bool) → a && (b && c) ≡ (a && b) && c
-and-assoc true b c = refl
-and-assoc false b c = refl
-
-all-append : (f : Tuple → Bool) (xs ys : List Tuple) → all-of f (xs ++ ys) ≡ all-of f xs && all-of f ys
-unfolding all-of
-all-append f [] ys = refl
-all-append f (x ∷ xs) ys = ap (λ (b : Bool). f x && b) (all-append f xs ys) ∙ and-assoc (f x) (all-of f xs) (all-of f ys)
-
 all-map : (f : Tuple → Bool) (a : ℕ) (xs : List Tuple) → all-of f (map (λ t. a ∷ t) xs) ≡ all-of (λ t. f (a ∷ t)) xs
 unfolding all-of
 all-map f a [] = refl

@@ -1,8 +1,8 @@
 -- All tuples for some slots, and all values of the slots of a mask.
-use Prim.Native.Nat.{ℕ, zero, suc, _+_, _<_, _≤_}
-use mathlib.Core.Path.{_≡_, refl, sym, ap, ap₂, _∙_, fun-ext}
-use mathlib.Core.Bool.{Bool, true, false, _||_, _&&_, cond}
-use mathlib.Core.List.{List, [], _∷_, map}
+use Prim.Native.Nat.{ℕ, zero, suc, _<_, _≤_}
+use mathlib.Core.Path.{_≡_, refl, sym, ap, _∙_, fun-ext}
+use mathlib.Core.Bool.{Bool, true, false, cond, and-true}
+use mathlib.Core.List.{List, [], _∷_}
 use native.Mathlib.Omega.{arith}
 use borrow.Author.Tests.{ne-eqb, eq-eqb, eqb-true, eqb-false, lt-ltb, le-ltb, ltb-true}
 use lib.Dec.{eqb, ltb}
@@ -10,8 +10,9 @@ use lib.ListN.{getD, set, length, length-set}
 use lib.Seq.{getD-set-same, getD-set-other, set-set, set-getD, ext-getD}
 use Rattle.definition.specs.Text.{some-of, all-of, below}
 use Rattle.definition.specs.Tables.{Tuple, bit, tuples}
+use Rattle.definition.proofs.BoolLaws.{contradiction}
 use Rattle.eval.specs.Meaning.{throughout}
-use Rattle.meaning.proofs.Numbers.{bool-ext, never, all-intro, all-elim, all-gather}
+use Rattle.meaning.proofs.Numbers.{bool-ext, all-intro, all-elim, all-gather}
 
 -- the slots ks given the elements of a tuple
 unfoldable pub set-all : List ℕ → Tuple → List ℕ → List ℕ
@@ -31,13 +32,9 @@ unfoldable all-slots : ℕ → List ℕ → (List ℕ → Bool) → List ℕ →
 all-slots u [] g τ = g τ
 all-slots u (k ∷ ks) g τ = all-of (λ a. all-slots u ks (λ σ. g (set σ k a)) τ) (below u)
 
-and-one : (b : Bool) → b && true ≡ b
-and-one true = refl
-and-one false = refl
-
 tuples-slots : (u : ℕ) (ks : List ℕ) (g : List ℕ → Bool) (τ : List ℕ) → all-of (λ t. g (set-all ks t τ)) (tuples u (length ks)) ≡ all-slots u ks g τ
 unfolding tuples set-all all-of all-slots
-tuples-slots u [] g τ = and-one (g τ)
+tuples-slots u [] g τ = and-true (g τ)
 tuples-slots u (k ∷ ks) g τ =
     all-gather (λ t. g (set-all (k ∷ ks) t τ)) (tuples u (length ks)) (below u)
     ∙ ap (λ (f : ℕ → Bool). all-of f (below u)) (fun-ext (λ a. tuples-slots u ks (λ σ. g (set σ k a)) τ))
@@ -88,7 +85,7 @@ module _ (u mask : ℕ) where
       record { long = vr .long ∙ length-set τ k v; same = λ i e. go i (eqb i k) refl e; within = λ i e. ho i (eqb i k) refl e }
     where
       go : (i : ℕ) (b : Bool) → eqb i k ≡ b → under M (suc k) i ≡ false → getD σ i 0 ≡ getD τ i 0
-      go i true q e = let z : i ≡ k = eqb-true i k q in never (under M (suc k) i) (rw z (under-last M k ∙ m)) e
+      go i true q e = let z : i ≡ k = eqb-true i k q in contradiction (under M (suc k) i) (rw z (under-last M k ∙ m)) e
       go i false q e = let n = eqb-false i k q in vr .same i (sym (under-other M k i n) ∙ e) ∙ getD-set-other τ k i v 0 n
 
       ho : (i : ℕ) (b : Bool) → eqb i k ≡ b → under M (suc k) i ≡ true → getD σ i 0 < u
@@ -104,11 +101,11 @@ module _ (u mask : ℕ) where
       go i false q e = let n = eqb-false i k q in vr .same i (under-other M k i n ∙ e) ∙ sym (getD-set-other τ k i (getD σ k 0) 0 n)
 
       ho : (i : ℕ) (b : Bool) → eqb i k ≡ b → under M k i ≡ true → getD σ i 0 < u
-      ho i true q e = let z : i ≡ k = eqb-true i k q in never (under M k i) e (rw z (under-self M k))
+      ho i true q e = let z : i ≡ k = eqb-true i k q in contradiction (under M k i) e (rw z (under-self M k))
       ho i false q e = vr .within i (under-other M k i (eqb-false i k q) ∙ e)
 
   varies-nil : (τ : List ℕ) → Varies u (under M 0) τ τ
-  varies-nil τ = record { long = refl; same = λ i e. refl; within = λ i e. never (under M 0 i) e (under-none M i) }
+  varies-nil τ = record { long = refl; same = λ i e. refl; within = λ i e. contradiction (under M 0 i) e (under-none M i) }
 
   through-intro : (k : ℕ) (g : List ℕ → Bool) (τ : List ℕ) → k ≤ length τ → ((σ : List ℕ) → Varies u (under M k) τ σ → g σ ≡ true) → throughout u mask k g τ ≡ true
   unfolding throughout
@@ -154,7 +151,7 @@ module _ (u : ℕ) where
       record { long = length-set σ k a ∙ vr .long; same = λ i e. go i (eqb i k) refl e; within = λ i e. ho i (eqb i k) refl e }
     where
       go : (i : ℕ) (b : Bool) → eqb i k ≡ b → In (k ∷ ks) i ≡ false → getD (set σ k a) i 0 ≡ getD τ i 0
-      go i true q e = never (In (k ∷ ks) i) (in-head k i ks (eqb-true i k q)) e
+      go i true q e = contradiction (In (k ∷ ks) i) (in-head k i ks (eqb-true i k q)) e
       go i false q e = let n = eqb-false i k q in getD-set-other σ k i a 0 n ∙ vr .same i (sym (in-tail k i ks n) ∙ e)
 
       ho : (i : ℕ) (b : Bool) → eqb i k ≡ b → In (k ∷ ks) i ≡ true → getD (set σ k a) i 0 < u
@@ -171,7 +168,7 @@ module _ (u : ℕ) where
       go i false q e = let n = eqb-false i k q in getD-set-other σ k i (getD τ k 0) 0 n ∙ vr .same i (in-tail k i ks n ∙ e)
 
       ho : (i : ℕ) (b : Bool) → eqb i k ≡ b → In ks i ≡ true → getD (set σ k (getD τ k 0)) i 0 < u
-      ho i true q e = let z : i ≡ k = eqb-true i k q in never (In ks i) e (rw z f)
+      ho i true q e = let z : i ≡ k = eqb-true i k q in contradiction (In ks i) e (rw z f)
       ho i false q e = let n = eqb-false i k q in rw (getD-set-other σ k i (getD τ k 0) 0 n) (vr .within i (in-tail k i ks n ∙ e))
 
   again-varies : (k : ℕ) (ks : List ℕ) (τ σ : List ℕ) → In ks k ≡ true → Varies u (In (k ∷ ks)) τ σ → Varies u (In ks) τ σ
@@ -183,7 +180,7 @@ module _ (u : ℕ) where
 
   slots-intro : (ks : List ℕ) (g : List ℕ → Bool) (τ : List ℕ) → Under (length τ) ks → ((σ : List ℕ) → Varies u (In ks) τ σ → g σ ≡ true) → all-slots u ks g τ ≡ true
   unfolding Under all-slots
-  slots-intro [] g τ w h = h τ (record { long = refl; same = λ i e. refl; within = λ i e. never (In [] i) e (in-none i) })
+  slots-intro [] g τ w h = h τ (record { long = refl; same = λ i e. refl; within = λ i e. contradiction (In [] i) e (in-none i) })
   slots-intro (k ∷ ks) g τ w h =
       all-intro (λ a. all-slots u ks (λ σ. g (set σ k a)) τ) u (λ a ha. slots-intro ks (λ σ. g (set σ k a)) τ (w .1) (λ σ vr. h (set σ k a) (put-varies k a ks τ σ ha (w .0) vr)))
 

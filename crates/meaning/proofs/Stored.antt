@@ -1,30 +1,19 @@
 -- A store that begins with the tables' words holds each relation's tuples.
-use Prim.Native.Nat.{ℕ, zero, suc, _+_, _<_}
-use mathlib.Core.Path.{_≡_, refl, sym, ap, ap₂, _∙_}
-use mathlib.Core.List.{List, [], _∷_, _++_}
-use native.Mathlib.Nat.{le-of-suc-le-suc, not-suc-le-zero}
+use Prim.Native.Nat.{ℕ, _<_}
+use mathlib.Core.Path.{_≡_, sym, ap, ap₂, _∙_}
+use mathlib.Core.List.{List, [], _++_}
 use native.Mathlib.Omega.{arith}
 use lib.ListN.{length, getD, take, drop, take-append-drop}
 use Rattle.definition.specs.Text.{Text}
-use Rattle.definition.specs.Facts.{Relation}
 use Rattle.definition.specs.Tables.{holds, table-words}
 use Rattle.definition.specs.Accept.{Accepted, elements, relation-words}
 use Rattle.definition.specs.Meaning.{Tables}
 use Rattle.definition.specs.Claim.{table-image}
-use Rattle.definition.proofs.RunLaws.{Shaped, none, one}
-use Rattle.definition.proofs.RelationLaws.{place-of, no-relation, table-of-at, words-before}
+use Rattle.definition.proofs.RunLaws.{Shaped}
+use Rattle.definition.proofs.RelationLaws.{place-of, table-of-at, shaped-length, shaped-at, words-before}
 use Rattle.tuples.proofs.Tables.{word-lt-words}
 use Rattle.tuples.proofs.Images.{image-holds}
 use Rattle.meaning.specs.Ready.{Tabled}
-
-shaped-length : {u : ℕ} {qs : List Relation} {ts : Tables} → Shaped u qs ts → length ts ≡ length qs
-shaped-length none = refl
-shaped-length (one e s) = ap suc (shaped-length s)
-
-shaped-at : {u : ℕ} {qs : List Relation} {ts : Tables} → Shaped u qs ts → (i : ℕ) → i < length qs → length (getD ts i []) ≡ table-words u (getD qs i no-relation .arity)
-shaped-at none i h = absurd (not-suc-le-zero h)
-shaped-at (one e s) zero h = e
-shaped-at (one e s) (suc i) h = shaped-at s i (le-of-suc-le-suc h)
 
 module _ (w : Accepted) (β : Text → ℕ) (loops : List Text) (vs : List ℕ) (ts : Tables) (firsts : List ℕ) (shaped : Shaped (elements w) (w .relations) ts)
     (places : (i : ℕ) → i < length (w .relations) → getD firsts i 0 ≡ relation-words (elements w) (take i (w .relations))) where

@@ -1,12 +1,11 @@
 -- Operands that stand for terms may stand for the same elements, and their tuples are the same.
-use Prim.Native.Nat.{ℕ, suc, _-_, _<_}
-use mathlib.Core.Path.{_≡_, refl, sym, ap, ap₂, _∙_, fun-ext}
+use Prim.Native.Nat.{ℕ, suc, _<_}
+use mathlib.Core.Path.{_≡_, refl, sym, ap, ap₂, _∙_}
 use mathlib.Core.Logic.{_⊎_, inl, inr}
-use mathlib.Core.Bool.{Bool, true, false, not, _||_, _&&_}
+use mathlib.Core.Bool.{Bool, true, false, not, _||_, _&&_, and-false}
 use mathlib.Core.List.{List, [], _∷_, map}
-use native.Mathlib.Omega.{arith}
 use lib.Dec.{T}
-use lib.ListN.{length, getD}
+use lib.ListN.{length}
 use Rattle.definition.specs.Text.{Text, member, some-of, all-of, gather, below}
 use Rattle.definition.specs.Token.{Token}
 use Rattle.definition.specs.Syntax.{Term, name, string, anything}
@@ -18,7 +17,7 @@ use Rattle.definition.specs.Meaning.{Environment, nowhere}
 use Rattle.definition.proofs.BoolLaws.{not-both}
 use Rattle.definition.proofs.TableLaws.{Below}
 use Rattle.definition.proofs.MeaningLaws.{head-in, tail-in}
-use Rattle.eval.specs.Nodes.{Operand, element, slot, variable, operand}
+use Rattle.eval.specs.Nodes.{Operand}
 use Rattle.eval.specs.Meaning.{choices, readings}
 use Rattle.eval.proofs.Operands.{some-gather, some-one}
 use Rattle.meaning.specs.Lowered.{Naming, Stands, attribute, loop-variable, found, missing, Stand, none, more}
@@ -93,11 +92,7 @@ module _ (w : Accepted) (β : Text → ℕ) (loops : List Text) (vs : List ℕ) 
   unfolding some-of
   some-const b [] = refl
   some-const true (c ∷ cs) = refl
-  some-const false (c ∷ cs) = some-const false cs ∙ none-of (some-of (λ a. true) cs)
-    where
-      none-of : (b : Bool) → b && false ≡ false
-      none-of true = refl
-      none-of false = refl
+  some-const false (c ∷ cs) = some-const false cs ∙ and-false (some-of (λ a. true) cs)
 
   chosen-anyhow : (env : Environment) (p : Term) → some-of (λ a. true) (Definition.choices w env p) ≡ some-of (λ a. true) (Definition.choices w nowhere p)
   unfolding Definition.choices some-of
