@@ -17,13 +17,13 @@ use Rattle.definition.specs.Accept as Accept
 use Rattle.definition.specs.Names.{left-strings}
 use Rattle.definition.specs.Calls.{Part, no-part, first-part, element-part}
 use Rattle.definition.proofs.AcceptLaws.{never, ok-injective, bind-ok, then-ok}
+use Rattle.definition.proofs.ListLaws.{gather-append}
 use Rattle.definition.proofs.PlaceLaws.{value-at}
 use Rattle.parts.specs.Packed.{part-of}
 use Rattle.facts.specs.Reading.{answered, line-facts, facts-from, all-facts}
 use Rattle.lexer.specs.Tokens.{Inside}
 use Rattle.kinds.specs.Resolved.{Parsed}
 use Rattle.universe.specs.Strings.{string-element, left-tokens}
-use Rattle.universe.proofs.Lists.{gather-append}
 use Rattle.universe.proofs.ElementParts.{elements-in}
 use Rattle.universe.proofs.LeftStrings.{Fits, left-strings-shown, left-strings-within}
 use Rattle.universe.proofs.Filling.{Filled, filled-part}

@@ -1,15 +1,15 @@
 -- The elements of the facts and the strings on left-hand sides as parts: what the definition says of the first of them, and of quotes.
 use Prim.Native.Nat.{ℕ, zero, suc, _+_, _/_, _%_, _<_, _≤_}
 use mathlib.Core.Path.{_≡_, refl, sym, ap, ap₂, subst, _∙_}
-use mathlib.Core.Bool.{Bool, true, false, _&&_, _||_, not, cond}
-use mathlib.Core.List.{List, [], _∷_, _++_, map}
+use mathlib.Core.Bool.{Bool, true, false, _&&_, _||_, not, cond, and-false}
+use mathlib.Core.List.{List, [], _∷_, _++_, map, map-append}
 use native.Mathlib.Omega.{arith}
 use borrow.Author.Tests.{leb-true}
 use lib.Dec.{T, eqb, leb}
-use lib.ListN.{length, getD, take, drop, length-take, length-drop}
+use lib.ListN.{length, take, drop, length-take, length-drop}
 use lib.Seq.{length-take-le}
 use native.Mathlib.Numerals.{add-one}
-use Rattle.definition.specs.Text.{if_then_else_, Text, same, some-of, span, starts, gather, is-blank, is-name}
+use Rattle.definition.specs.Text.{Text, same, some-of, span, starts, gather, is-blank, is-name}
 use Rattle.definition.specs.Limits.{WORD-BYTES, ARITY}
 use Rattle.definition.specs.Answer.{Answer, ok, refused, _>>=_, refuse-if}
 use Rattle.definition.specs.Facts.{Line, Element, Fact, Word, none, one, wrong, is-inside, word, quoted-word, bare-word, on-word, elements, skipped, fact, lines, cut}
@@ -18,12 +18,12 @@ use Rattle.definition.proofs.BoolLaws.{and-left, and-right, is-true}
 use Rattle.definition.proofs.AcceptLaws.{never, ok-injective, bind-ok, then-ok}
 use Rattle.definition.proofs.MeaningLaws.{same-eq}
 use Rattle.definition.proofs.PlaceLaws.{At, at-part, EachElement, no-element, an-element, value-at}
-use Rattle.parts.specs.Packed.{pack, tag-of, part-of, text-of}
+use Rattle.definition.proofs.ListLaws.{gather-append}
+use Rattle.parts.specs.Packed.{tag-of, part-of, text-of}
 use Rattle.parts.proofs.PackLaws.{pack-part, pack-tag}
 use Rattle.facts.specs.Words.{element-word}
 use Rattle.facts.specs.Reading.{answered, line-facts, facts-from, all-facts}
 use Rattle.universe.specs.Strings.{string-part, string-element}
-use Rattle.universe.proofs.Lists.{map-append, gather-append}
 use Rattle.universe.proofs.FirstParts.{part-in, quotes, Small}
 use Rattle.universe.proofs.LeftStrings.{Fits}
 use Rattle.universe.proofs.Entering.{string-text}
@@ -120,23 +120,19 @@ unfolding gather
 words-in [] = refl
 words-in (f ∷ fs) = ap (λ (ws : List ℕ). map element-word (f .elements) ++ ws) (words-in fs) ∙ sym (map-append element-word (f .elements) (elements-in fs))
 
-tag-small : (b : Bool) → cond b 1 0 < 4
-tag-small true = omega arith
-tag-small false = omega arith
+tag-two : (b : Bool) → cond b 1 0 < 2
+tag-two true = omega arith
+tag-two false = omega arith
 
 element-part : (e : Element) → length (e .value) ≤ WORD-BYTES → part-of (element-word e) ≡ record { text = 0; offset = value-at e; length = length (e .value) }
-element-part e h = pack-part 0 (value-at e) (length (e .value)) (cond (e .quoted) 1 0) (omega arith) (omega arith) (tag-small (e .quoted))
+element-part e h = pack-part 0 (value-at e) (length (e .value)) (cond (e .quoted) 1 0) (omega arith) (omega arith) (omega (arith, tag-two (e .quoted)))
 
 element-tag : (e : Element) → length (e .value) ≤ WORD-BYTES → tag-of (element-word e) ≡ cond (e .quoted) 1 0
-element-tag e h = pack-tag 0 (value-at e) (length (e .value)) (cond (e .quoted) 1 0) (omega arith) (omega arith) (tag-small (e .quoted))
+element-tag e h = pack-tag 0 (value-at e) (length (e .value)) (cond (e .quoted) 1 0) (omega arith) (omega arith) (omega (arith, tag-two (e .quoted)))
 
 quoted-test : (b : Bool) → eqb (cond b 1 0) 1 ≡ b
 quoted-test true = refl
 quoted-test false = refl
-
-tag-two : (b : Bool) → cond b 1 0 < 2
-tag-two true = omega arith
-tag-two false = omega arith
 
 module _ (facts query : Text) where
   element-text : (e : Element) → length (e .value) ≤ WORD-BYTES → At facts (value-at e) (e .value) → text-of facts query (element-word e) ≡ e .value
@@ -170,10 +166,6 @@ module _ (facts query : Text) where
 
 string-tag : (t : ℕ) → tag-of (string-part t) ≡ 0
 string-tag t = pack-tag 1 (t / 4096 + 1) (t / 64 % 64) 0 (omega arith) (omega arith) (omega arith)
-
-and-false : (b : Bool) → b && false ≡ false
-and-false true = refl
-and-false false = refl
 
 module _ (facts query : Text) where
   pub strings-small : (ts : List ℕ) → Small facts query (map string-part ts)

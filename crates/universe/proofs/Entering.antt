@@ -1,8 +1,8 @@
 -- The strings on left-hand sides entered into the universe, word by word.
-use Prim.Native.Nat.{ℕ, zero, suc, _+_, _/_, _%_, _<_, _≤_}
+use Prim.Native.Nat.{ℕ, suc, _+_, _/_, _%_, _<_, _≤_}
 use mathlib.Core.Path.{_≡_, refl, sym, ap, subst, _∙_}
 use mathlib.Core.Bool.{Bool, true, false, cond}
-use mathlib.Core.List.{List, [], _∷_, _++_, map}
+use mathlib.Core.List.{List, [], _∷_, _++_, map, map-append}
 use native.Mathlib.Numerals.{add-one}
 use native.Mathlib.Omega.{arith}
 use borrow.Author.Tests.{eq-eqb, ne-eqb, le-ltb, lt-ltb}
@@ -11,24 +11,22 @@ use lib.ListN.{length, getD, take, drop, drop-of-length-le}
 use lib.Seq.{drop-cons}
 use Rattle.definition.specs.Text.{Text}
 use Rattle.definition.specs.Limits.{Limits, document-01}
-use Rattle.definition.specs.Answer.{Answer, ok, refused, _>>=_, _>>_, refuse-if}
+use Rattle.definition.specs.Answer.{_>>=_, _>>_, refuse-if}
 use Rattle.definition.specs.Token.{Token}
 use Rattle.definition.specs.Syntax.{Program}
 use Rattle.definition.specs.Facts.{Element, insert, use-elements}
-use Rattle.definition.specs.Names.{left-strings}
 use Rattle.definition.specs.Calls.{part-text}
 use Rattle.words.specs.Fields.{kind-of, p-of}
-use Rattle.parts.specs.Packed.{pack, text-of}
+use Rattle.parts.specs.Packed.{text-of}
 use Rattle.parts.specs.Entries.{Held, enter, enter-all, texts-of, in-front, count-in}
 use Rattle.parts.specs.declared.Entered.the-variants as entered
 use Rattle.parts.proofs.PackLaws.{pack-part}
 use Rattle.parts.proofs.HeldLaws.{length-texts, texts-enter, enter-all-longer, enter-all-append, held-first, held-take, held-drop, held-length, held-then, held-front, no-room}
 use Rattle.facts.specs.Pass.{limits-of}
 use Rattle.kinds.specs.Resolved.{Parsed}
-use Rattle.universe.specs.Strings.{LEFT-STRING, string-part, string-element, left-tokens, with-strings, Enters, WithStrings, StringsMeet}
+use Rattle.universe.specs.Strings.{LEFT-STRING, string-part, string-element, left-tokens, with-strings, Enters, StringsMeet}
 use Rattle.universe.specs.declared.Strings.{Strings}
 use Rattle.universe.specs.declared.Strings.the-variants.{Count, Full}
-use Rattle.universe.proofs.Lists.{map-append}
 use Rattle.universe.proofs.LeftStrings.{left-strings-shown}
 
 -- more elements after others

@@ -1,26 +1,26 @@
 -- The universe of two accepted texts, as the parts that the facts and the left-hand strings leave: the texts and quotes of its elements, and their first places.
 use Prim.Native.Nat.{ℕ, zero, suc, _<_, _≤_}
 use mathlib.Core.Path.{_≡_, refl, sym, ap, ap₂, subst, _∙_}
-use mathlib.Core.Bool.{Bool, true, false, _&&_, _||_}
-use mathlib.Core.List.{List, [], _∷_, _++_, map}
+use mathlib.Core.Bool.{Bool, _&&_, _||_, or-false}
+use mathlib.Core.List.{List, [], _∷_, map}
 use native.Mathlib.Omega.{arith}
 use borrow.Author.Tests.{lt-ltb, le-ltb}
-use lib.Dec.{eqb}
 use lib.ListN.{length, getD, take}
-use Rattle.definition.specs.Text.{Text, same, some-of, gather}
-use Rattle.definition.specs.Limits.{Limits, document-01}
-use Rattle.definition.specs.Answer.{Answer, ok}
+use Rattle.definition.specs.Text.{Text, same, some-of}
+use Rattle.definition.specs.Limits.{document-01}
+use Rattle.definition.specs.Answer.{ok}
 use Rattle.definition.specs.Token.{Token}
 use Rattle.definition.specs.Syntax.{Program}
-use Rattle.definition.specs.Facts.{Element, Fact, Facts, read-facts, use-elements, Ascending}
+use Rattle.definition.specs.Facts.{Element, Facts, read-facts, use-elements, Ascending, Fact}
 use Rattle.definition.specs.Names.{left-strings}
 use Rattle.definition.specs.Accept.{Accepted, accept, read-query, elements}
 use Rattle.definition.specs.Calls.{Part, no-part, first-part, element-part}
 use Rattle.definition.specs.Print.{is-quoted}
 use Rattle.definition.proofs.AcceptLaws as AcceptLaws
 use Rattle.definition.proofs.AcceptLaws.{ok-injective}
-use Rattle.definition.proofs.PlaceLaws.{EachElement, no-element, EachFact, no-fact, a-fact, each-append, accepted-facts}
-use Rattle.parts.specs.Packed.{tag-of, part-of, text-of}
+use Rattle.definition.proofs.PlaceLaws.{EachElement, EachFact, accepted-facts, all-elements}
+use Rattle.definition.proofs.ListLaws.{some-gather}
+use Rattle.parts.specs.Packed.{part-of, text-of}
 use Rattle.parts.specs.Entries.{enter-all, texts-of}
 use Rattle.parts.proofs.HeldLaws.{length-texts, held-take, enter-all-ascending}
 use Rattle.facts.specs.declared.Counts.{Counts}
@@ -32,21 +32,10 @@ use Rattle.lexer.specs.Tokens.{Inside}
 use Rattle.kinds.specs.Resolved.{Parsed}
 use Rattle.lines.specs.Lines.{texts}
 use Rattle.lines.proofs.LineLaws.{Shows}
-use Rattle.universe.specs.Strings.{string-part, string-element, left-tokens, with-strings, WithStrings}
-use Rattle.universe.proofs.Lists.{some-append, or-none}
+use Rattle.universe.specs.Strings.{string-part, left-tokens, with-strings, WithStrings}
 use Rattle.universe.proofs.LeftStrings.{left-strings-shown, left-strings-within}
 use Rattle.universe.proofs.FirstParts.{part-in, quotes, Small, enter-all-small, part-enter-all, part-at, quotes-enter-all, quotes-at}
-use Rattle.universe.proofs.ElementParts.{Short, elements-in, all-short, words-in, words-small, first-in-facts, quoted-in-facts, strings-small, quoted-by-none, first-in-query}
-
-some-gather : (p : Element → Bool) (fs : List Fact) → some-of p (elements-in fs) ≡ some-of (λ f. some-of p (f .elements)) fs
-unfolding some-of gather
-some-gather p [] = refl
-some-gather p (f ∷ fs) = some-append p (f .elements) (elements-in fs) ∙ ap (λ (b : Bool). some-of p (f .elements) || b) (some-gather p fs)
-
-all-elements : {text : Text} {fs : List Fact} → EachFact text fs → EachElement text (elements-in fs)
-unfolding gather
-all-elements no-fact = no-element
-all-elements (a-fact h hs) = each-append (h .elements) (all-elements hs)
+use Rattle.universe.proofs.ElementParts.{elements-in, all-short, words-in, words-small, first-in-facts, quoted-in-facts, strings-small, quoted-by-none, first-in-query}
 
 texts-at : (facts query : Text) (ws : List ℕ) (n : ℕ) → n < length ws → getD (texts-of facts query ws) n [] ≡ text-of facts query (getD ws n 0)
 texts-at facts query [] n h = absurd (omega arith)
@@ -114,9 +103,9 @@ module _ (facts query : Text) where
         ∙ ap (λ (b : Bool). b || quotes facts query t (entered facts query (all-facts facts))) (quoted-by-none facts query t (left-tokens tokens words))
         ∙ ap (quotes facts query t) facts-parts
         ∙ quotes-enter-all facts query t (map element-word (elements-in (all-facts facts))) [] own-small tt
-        ∙ or-none (quotes facts query t (map element-word (elements-in (all-facts facts))))
+        ∙ or-false (quotes facts query t (map element-word (elements-in (all-facts facts))))
         ∙ quoted-in-facts facts query t located (all-short facts)
-        ∙ some-gather (λ e. same t (e .value) && e .quoted) (all-facts facts)
+        ∙ some-gather (λ (e : Element). same t (e .value) && e .quoted) (λ (f : Fact). f .elements) (all-facts facts)
         ∙ ap (some-of (λ f. some-of (λ e. same t (e .value) && e .quoted) (f .elements))) (sym (h .from-facts))
 
     -- each element has its text, and its tag says whether some fact quoted it

@@ -1,24 +1,22 @@
 -- Parts entered into a list in byte order: each text stands there once, as the first part that was entered with it, and quoted if some part was.
 use Prim.Native.Nat.{ℕ, zero, suc, _+_, _%_, _<_}
 use mathlib.Core.Path.{_≡_, refl, sym, ap, ap₂, subst, _∙_}
-use mathlib.Core.Bool.{Bool, true, false, _&&_, _||_, cond}
-use mathlib.Core.List.{List, [], _∷_, _++_}
+use mathlib.Core.Bool.{Bool, true, false, _&&_, _||_, cond, or-false, or-assoc}
+use mathlib.Core.List.{List, [], _∷_}
 use native.Mathlib.Omega.{arith}
-use native.Mathlib.Nat.{le-of-suc-le-suc}
 use borrow.Author.Tests.{eqb-true, eqb-false, eq-eqb}
 use lib.Dec.{T, eqb}
 use lib.ListN.{length, getD}
 use Rattle.definition.specs.Text.{if_then_else_, Text, same, earlier, member, some-of}
 use Rattle.definition.specs.Calls.{Part, part-text}
-use Rattle.definition.proofs.BoolLaws.{is-true}
-use Rattle.definition.proofs.MeaningLaws.{same-eq, same-refl}
+use Rattle.definition.proofs.BoolLaws.{or-left-comm}
+use Rattle.definition.proofs.MeaningLaws.{same-eq, same-refl, same-itself}
 use Rattle.definition.specs.Facts.{Ascending}
 use Rattle.definition.proofs.UniverseLaws.{earlier-not-same, earlier-trans}
 use Rattle.parts.specs.Packed.{tag-of, part-of, text-of}
 use Rattle.parts.specs.Entries.{quoted-too, enter, enter-all, texts-of}
 use Rattle.parts.proofs.PackLaws.{quoted-part}
 use Rattle.parts.proofs.HeldLaws.{enter-ascending}
-use Rattle.universe.proofs.Lists.{or-none}
 
 -- a text before the first of an ascending list is not in it
 not-same : (t u : Text) → T (earlier t u) → same t u ≡ false
@@ -39,9 +37,6 @@ unfolding member some-of
 not-behind t u [] h a = refl
 not-behind t u (v ∷ us) h a = not-member t v us (subst (λ (x : Text). T (earlier x v)) (sym (same-eq t u h)) (a .0)) (a .1)
 
-same-self : (t : Text) → same t t ≡ true
-same-self t = is-true (same t t) (same-refl t)
-
 -- equal texts are found equally
 same-with : (t u v : Text) → T (same u v) → same t u ≡ same t v
 same-with t u v h = ap (same t) (same-eq u v h)
@@ -51,17 +46,6 @@ either : (s a b q : Bool) → (s && (a || b)) || q ≡ (s && a) || ((s && b) || 
 either true true b q = refl
 either true false b q = refl
 either false a b q = refl
-
-swap : (a b c : Bool) → a || (b || c) ≡ b || (a || c)
-swap true true c = refl
-swap true false c = refl
-swap false b c = refl
-
-turn : (a b c : Bool) → a || (b || c) ≡ (b || a) || c
-turn true true c = refl
-turn true false c = refl
-turn false true c = refl
-turn false false c = refl
 
 module _ (facts query : Text) where
   -- the first of some parts that has the text t; within if there is none
@@ -89,7 +73,7 @@ module _ (facts query : Text) where
   is-member : (ws : List ℕ) (n : ℕ) → n < length ws → member (text-of facts query (getD ws n 0)) (texts-of facts query ws) ≡ true
   unfolding member some-of
   is-member [] n h = absurd (omega arith)
-  is-member (w ∷ ws) zero h = rw (same-self (text-of facts query w))
+  is-member (w ∷ ws) zero h = rw (same-itself (text-of facts query w))
   is-member (w ∷ ws) (suc n) h = go (same (text-of facts query (getD ws n 0)) (text-of facts query w)) (is-member ws n (omega arith))
     where
       go : (b : Bool) → member (text-of facts query (getD ws n 0)) (texts-of facts query ws) ≡ true → b || member (text-of facts query (getD ws n 0)) (texts-of facts query ws) ≡ true
@@ -142,7 +126,7 @@ module _ (facts query : Text) where
   pub part-at : (ws : List ℕ) (n : ℕ) (within : Part) → Ascending (texts-of facts query ws) → n < length ws → part-in (text-of facts query (getD ws n 0)) ws within ≡ part-of (getD ws n 0)
   unfolding part-in
   part-at [] n within a h = absurd (omega arith)
-  part-at (w ∷ ws) zero within a h = rw (same-self (text-of facts query w))
+  part-at (w ∷ ws) zero within a h = rw (same-itself (text-of facts query w))
   part-at (w ∷ ws) (suc n) within a h = rw (later-same w ws n a (omega arith)) (part-at ws n within (a .1) (omega arith))
 
   -- an entry's tag is 0 or 1
@@ -191,7 +175,7 @@ module _ (facts query : Text) where
           ∙ either (same t (text-of facts query w)) (eqb (tag-of v) 1) (eqb (tag-of w) 1) (quotes t ws)
           ∙ ap (λ (c : Bool). (c && eqb (tag-of v) 1) || ((same t (text-of facts query w) && eqb (tag-of w) 1) || quotes t ws)) (sym (same-with t (text-of facts query v) (text-of facts query w) (rw e tt)))
       go false e true ih = refl
-      go false e false ih = ap (λ (c : Bool). (same t (text-of facts query w) && eqb (tag-of w) 1) || c) ih ∙ swap (same t (text-of facts query w) && eqb (tag-of w) 1) (same t (text-of facts query v) && eqb (tag-of v) 1) (quotes t ws)
+      go false e false ih = ap (λ (c : Bool). (same t (text-of facts query w) && eqb (tag-of w) 1) || c) ih ∙ or-left-comm (same t (text-of facts query w) && eqb (tag-of w) 1) (same t (text-of facts query v) && eqb (tag-of v) 1) (quotes t ws)
 
   pub quotes-enter-all : (t : Text) (vs ws : List ℕ) → Small vs → Small ws → quotes t (enter-all facts query vs ws) ≡ quotes t vs || quotes t ws
   unfolding enter-all quotes some-of Small
@@ -199,7 +183,7 @@ module _ (facts query : Text) where
   quotes-enter-all t (v ∷ vs) ws r s =
       quotes-enter-all t vs (enter facts query v ws) (r .1) (enter-small v ws (r .0) s)
       ∙ ap (λ (c : Bool). quotes t vs || c) (quotes-enter t v ws s)
-      ∙ turn (quotes t vs) (same t (text-of facts query v) && eqb (tag-of v) 1) (quotes t ws)
+      ∙ or-left-comm (quotes t vs) (same t (text-of facts query v) && eqb (tag-of v) 1) (quotes t ws) ∙ sym (or-assoc (same t (text-of facts query v) && eqb (tag-of v) 1) (quotes t vs) (quotes t ws))
 
   pub enter-all-small : (vs ws : List ℕ) → Small vs → Small ws → Small (enter-all facts query vs ws)
   unfolding enter-all Small
@@ -220,6 +204,6 @@ module _ (facts query : Text) where
   unfolding quotes some-of
   quotes-at [] n a h = absurd (omega arith)
   quotes-at (w ∷ ws) zero a h =
-      ap₂ (λ (b c : Bool). (b && eqb (tag-of w) 1) || c) (same-self (text-of facts query w)) (quotes-none (text-of facts query w) ws (not-behind (text-of facts query w) (text-of facts query w) (texts-of facts query ws) (same-refl (text-of facts query w)) a))
-      ∙ or-none (eqb (tag-of w) 1)
+      ap₂ (λ (b c : Bool). (b && eqb (tag-of w) 1) || c) (same-itself (text-of facts query w)) (quotes-none (text-of facts query w) ws (not-behind (text-of facts query w) (text-of facts query w) (texts-of facts query ws) (same-refl (text-of facts query w)) a))
+      ∙ or-false (eqb (tag-of w) 1)
   quotes-at (w ∷ ws) (suc n) a h = rw (later-same w ws n a (omega arith)) (quotes-at ws n (a .1) (omega arith))

@@ -1,21 +1,20 @@
 -- The strings on left-hand sides stand in the words of a program in its order.
 use Prim.Native.Nat.{ℕ, _+_, _-_, _/_, _%_, _<_, _≤_}
 use mathlib.Core.Path.{_≡_, refl, sym, ap, ap₂, subst, _∙_}
-use mathlib.Core.Bool.{Bool, true, false, cond}
+use mathlib.Core.Bool.{Bool, true, cond}
 use mathlib.Core.List.{List, [], _∷_, _++_, map}
 use native.Mathlib.Omega.{arith}
 use borrow.Author.Tests.{eq-eqb, ne-eqb}
-use lib.Dec.{eqb}
 use lib.ListN.{length, getD, take, drop}
 use Rattle.definition.specs.Text.{Text}
-use Rattle.definition.specs.Token.{Token, token-at}
+use Rattle.definition.specs.Token.{Token}
 use Rattle.definition.specs.Facts.{Element}
 use Rattle.definition.specs.Syntax.{Term, name, string, anything, Expression, atom, truth, falsity, compare, negation, conjunction, disjunction, implication, equivalence, exists, for-all, closure-of, compare-relations}
 use Rattle.definition.specs.Syntax as Syntax
 use Rattle.definition.specs.Syntax.{Item, rows, line-end, Program, end, assign, print, test, while, for, block}
 use Rattle.definition.specs.Names.{strings, left-strings}
 use Rattle.words.specs.Fields.{word, kind-of, p-of, RELATION-NAME, ATTRIBUTE, TERM, WORD, BIND, RANGE, NEXT, ANYTHING, ATOM, TRUTH, FALSITY, ORDER, NEGATION, CONJUNCTION, DISJUNCTION, IMPLICATION, EQUIVALENCE, EXISTS, FOR-ALL, CLOSURE, COMPARISON, ROWS, SAY, LINE-END, ASSIGN, TEST, JUMP, AGAIN, PRINT, STRING}
-use Rattle.words.specs.Raw.{number, leaf, leaves, size, flat, size-item, flat-item, size-items, flat-items, size-program, flat-program}
+use Rattle.words.specs.Raw.{number, leaves, size, flat, flat-item, size-items, flat-items, size-program, flat-program}
 use Rattle.words.specs.Tokens.{OwnString, OwnTerms, OwnProgram}
 use Rattle.words.proofs.FieldLaws.{kind-word, p-word}
 use Rattle.intern.specs.Entries.{QUOTED, text-at, Stand}
