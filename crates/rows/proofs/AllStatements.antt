@@ -1,12 +1,11 @@
 -- All statements of a program, in the order of the text.
-use Prim.Native.Nat.{ℕ, zero, suc, _+_, _-_, _<_, _≤_}
-use mathlib.Core.Path.{_≡_, refl, sym, ap, ap₂, _∙_}
-use mathlib.Core.Bool.{Bool, true, false, cond}
+use Prim.Native.Nat.{ℕ, _+_, _-_, _<_, _≤_}
+use mathlib.Core.Path.{_≡_, refl, ap, _∙_}
+use mathlib.Core.Bool.{Bool}
 use mathlib.Core.List.{List, [], _∷_, _++_, append-assoc}
 use native.Mathlib.Omega.{arith}
 use native.Mathlib.Numerals.{add-one}
 use borrow.Author.Tests.{eq-eqb, ne-eqb}
-use lib.Dec.{eqb}
 use lib.ListN.{length, getD, drop, length-append, drop-of-length-le}
 use lib.Seq.{drop-cons}
 use Rattle.definition.specs.Answer.{Answer, ok, refused, number, place, _>>_}
@@ -22,21 +21,13 @@ use Rattle.words.specs.Tokens.{OwnProgram}
 use Rattle.words.specs.Parts.{ends, Part, part, parts, owns}
 use Rattle.words.specs.Parts as Parts
 use Rattle.words.proofs.Sizes.{length-leaves, length-flat, length-items, length-program}
-use Rattle.words.proofs.Places.{has-append, has-all}
+use Rattle.words.proofs.Places.{has-append, has-all, has-cut}
 use Rattle.words.proofs.StatementParts.{parts-program}
 use Rattle.rows.specs.declared.Ruled.{Ruled}
 use Rattle.rows.specs.declared.Ruled.the-variants.{Fine, Refused}
 use Rattle.rows.specs.declared.Turn.{Turn}
 use Rattle.rows.specs.declared.Turn.the-variants.{On, Stop}
 use Rattle.rows.specs.Statements.{meets, Setting, vs, Stated, assigned, printed, tested, ranged, Rows, none, then, turned, next, Near}
-
--- words up to one of them, and those after it
-cut : (words : List ℕ) (n m : ℕ) (xs : List ℕ) (w : ℕ) (ys : List ℕ) → n + length xs + 1 ≡ m → Has words n (xs ++ (w ∷ ys)) → Has words n (xs ++ (w ∷ [])) × Has words m ys
-cut words n m xs w ys e h =
-    let g : Has words n ((xs ++ (w ∷ [])) ++ ys) = rw append-assoc h in
-    let a = has-append words n (xs ++ (w ∷ [])) ys g in
-    let j : n + length (xs ++ (w ∷ [])) ≡ m = omega (arith, e, length-append xs (w ∷ [])) in
-    (a .0, rw j at (a .1))
 
 then-assoc : (x a b : Answer (Unit {0})) → _>>_ (_>>_ x a) b ≡ _>>_ x (_>>_ a b)
 then-assoc (ok u) a b = refl
@@ -62,18 +53,18 @@ module _ (words ids known : List ℕ) (S : Setting words ids known) where
       let m = n + 1 + length ps + size e in
       let xs = word RELATION-NAME (Raw.number r) (length ps) 0 ∷ (leaves ATTRIBUTE ps ++ flat e (n + 1 + length ps)) in
       let g : Has words n (xs ++ (word ASSIGN n (length ps) i ∷ flat-program k (m + 1))) = rw append-assoc w in
-      let c = cut words n (m + 1) xs (word ASSIGN n (length ps) i) (flat-program k (m + 1)) (omega (arith, length-append (leaves ATTRIBUTE ps) (flat e (n + 1 + length ps)), length-leaves ATTRIBUTE ps, length-flat e (n + 1 + length ps))) g in
+      let c = has-cut words n (m + 1) xs (word ASSIGN n (length ps) i) (flat-program k (m + 1)) (omega (arith, length-append (leaves ATTRIBUTE ps) (flat e (n + 1 + length ps)), length-leaves ATTRIBUTE ps, length-flat e (n + 1 + length ps))) g in
       then (assigned i r ps e (o .0) (o .1) (o .2) (o .3) refl (c .0)) (program-parts k (m + 1) (o .4) (omega arith) (c .1))
   program-parts (print i is k) n o h w =
       let m = n + size-items is in
-      let c = cut words n (m + 1) (flat-items is n) (word PRINT n 0 i) (flat-program k (m + 1)) (omega (arith, length-items is n)) w in
+      let c = has-cut words n (m + 1) (flat-items is n) (word PRINT n 0 i) (flat-program k (m + 1)) (omega (arith, length-items is n)) w in
       then (printed i is (o .0) (o .1) refl (c .0)) (program-parts k (m + 1) (o .2) (omega arith) (c .1))
   program-parts (test i e a b k) n o h w =
       let m = n + size e + 1 in
       let l = m + size-program a + 1 in
       let f = l + size-program b in
-      let c = cut words n m (flat e n) (word TEST 0 l i) _ (omega (arith, length-flat e n)) w in
-      let x = cut words m l (flat-program a m) (word JUMP 0 f 0) _ (omega (arith, length-program a m)) (c .1) in
+      let c = has-cut words n m (flat e n) (word TEST 0 l i) _ (omega (arith, length-flat e n)) w in
+      let x = has-cut words m l (flat-program a m) (word JUMP 0 f 0) _ (omega (arith, length-program a m)) (c .1) in
       let ha = has-append words m (flat-program a m) _ (x .0) in
       let y = has-append words l (flat-program b l) _ (x .1) in
       then (tested i l e (o .0) (omega arith) (o .1) refl (c .0))
@@ -81,16 +72,16 @@ module _ (words ids known : List ℕ) (S : Setting words ids known) where
   program-parts (while i e a k) n o h w =
       let m = n + size e + 1 in
       let l = m + size-program a + 1 in
-      let c = cut words n m (flat e n) (word TEST 0 l i) _ (omega (arith, length-flat e n)) w in
-      let x = cut words m l (flat-program a m) (word AGAIN (n + size e - 1) m 0) _ (omega (arith, length-program a m)) (c .1) in
+      let c = has-cut words n m (flat e n) (word TEST 0 l i) _ (omega (arith, length-flat e n)) w in
+      let x = has-cut words m l (flat-program a m) (word AGAIN (n + size e - 1) m 0) _ (omega (arith, length-program a m)) (c .1) in
       let ha = has-append words m (flat-program a m) _ (x .0) in
       then (tested i l e (o .0) (omega arith) (o .1) refl (c .0)) (rows-append (program-parts a m (o .2) (omega arith) (ha .0)) (program-parts k l (o .3) (omega arith) (x .1)))
   program-parts (for i v e a k) n o h w =
       let m = n + 1 + size e + 1 in
       let l = m + size-program a in
       let xs = word BIND (Raw.number v) 0 0 ∷ flat e (n + 1) in
-      let c = cut words n m xs (word RANGE (Raw.number v) l i) _ (omega (arith, length-flat e (n + 1))) w in
-      let x = cut words m (l + 1) (flat-program a m) (word NEXT (Raw.number v) m 0) _ (omega (arith, length-program a m)) (c .1) in
+      let c = has-cut words n m xs (word RANGE (Raw.number v) l i) _ (omega (arith, length-flat e (n + 1))) w in
+      let x = has-cut words m (l + 1) (flat-program a m) (word NEXT (Raw.number v) m 0) _ (omega (arith, length-program a m)) (c .1) in
       let ha = has-append words m (flat-program a m) _ (x .0) in
       then (ranged i l v e (o .0) (omega arith) (o .1) (o .2) refl (c .0)) (rows-append (program-parts a m (o .3) (omega arith) (ha .0)) (program-parts k (l + 1) (o .4) (omega arith) (x .1)))
   program-parts (block a k) n o h w =
