@@ -8,16 +8,16 @@ use mathlib.Core.List.{List}
 use lib.Dec.{eqb, ltb}
 use lib.ListN.{length, getD, set}
 use lib.Seq.{sets}
-use borrow.Author.Tests.{ne-eqb, eqb-true, eqb-false, ltb-true, ltb-false, lt-ltb, le-ltb, lt-leb, le-leb}
+use borrow.Author.Tests.{eqb-true, eqb-false, ltb-true, ltb-false, lt-ltb, le-ltb, lt-leb, le-leb}
 use Rattle.words.specs.Fields as Fields
-use Rattle.words.specs.Fields.{kind-of, p-of, q-of}
+use Rattle.words.specs.Fields.{kind-of, q-of}
 use Rattle.definition.specs.Text.{Text}
-use Rattle.machine.specs.Instructions.{Instr, END, PASS, ASSIGN, PRINT, TEST, AGAIN, RANGE, NEXT, JUMP, decode, instr}
+use Rattle.machine.specs.Instructions.{Instr, PASS, ASSIGN, PRINT, TEST, AGAIN, RANGE, NEXT, JUMP, instr}
 use Rattle.machine.specs.Actions.{Actions}
 use Rattle.machine.specs.Turns.{Held, held, next-at, overflows, goes-after, turn-by, turn, is-full}
 use Rattle.lines.specs.Put.{Printed}
 use Rattle.machine.specs.Bound.{Turned}
-use Rattle.machine.proofs.Decoding.{instr-decoded, is-print, is-jump, is-back, is-pass}
+use Rattle.machine.proofs.Decoding.{Decoded, a-pass, an-assign, a-print, a-test, an-again, a-range, a-next, a-jump, instr-is, is-print, is-jump, is-back, is-pass}
 
 -- a kind of no step but a PRINT, as the code's match tells it
 abbrev pub Steps : ℕ → Type 0
@@ -75,47 +75,15 @@ pub by-no : {r t : Bool} → r ≡ t → r ≡ false → (y n : ℕ) → n ≡ c
 by-no e h y n = ap (λ b. cond b y n) (sym (sym e ∙ h))
 
 -- A PRINT, and that no other word's step overflows.
-abbrev is-printing : Instr → Bool
-is-printing END = false
-is-printing PASS = false
-is-printing ASSIGN = false
-is-printing PRINT = true
-is-printing (TEST n) = false
-is-printing (AGAIN n) = false
-is-printing (RANGE d n) = false
-is-printing (NEXT d n) = false
-is-printing (JUMP n) = false
-
-record Silent (i : Instr) : Type 0 where
-  silent : is-printing i ≡ false
-
-either : (b : Bool) {x y : Instr} → Silent x → Silent y → Silent (cond b x y)
-either true p q = p
-either false p q = q
-
-pass : Silent PASS
-pass = record { silent = refl }
-
-silent-word : (at k p q : ℕ) → (k ≡ Fields.PRINT → ⊥) → Silent (decode at k p q)
-unfolding decode
-silent-word at k p q h =
-    rw (ne-eqb k Fields.PRINT h) (either (eqb k Fields.ASSIGN) (record { silent = refl })
-    (either (eqb k Fields.TEST) (record { silent = refl })
-    (either (eqb k Fields.AGAIN) (record { silent = refl })
-    (either (eqb k Fields.RANGE) (record { silent = refl })
-    (either (eqb k Fields.NEXT) (record { silent = refl })
-    (either (eqb k Fields.JUMP) (either (ltb at q) (record { silent = refl }) pass) pass))))))
-
-silent-fits : (A : Actions) (u : ℕ) (i : Instr) (c : Held) → is-printing i ≡ false → false ≡ overflows A u i c
-silent-fits A u END c e = refl
-silent-fits A u PASS c e = refl
-silent-fits A u ASSIGN c e = refl
-silent-fits A u PRINT c e = let z : _≡_ {A = ℕ} 0 1 = cc in absurd (omega arith)
-silent-fits A u (TEST n) c e = refl
-silent-fits A u (AGAIN n) c e = refl
-silent-fits A u (RANGE d n) c e = refl
-silent-fits A u (NEXT d n) c e = refl
-silent-fits A u (JUMP n) c e = refl
+no-print : (A : Actions) (u k : ℕ) {i : Instr} (c : Held) → Decoded k i → (k ≡ Fields.PRINT → ⊥) → false ≡ overflows A u i c
+no-print A u k c a-pass n = refl
+no-print A u k c an-assign n = refl
+no-print A u k c (a-print e) n = absurd (n e)
+no-print A u k c a-test n = refl
+no-print A u k c an-again n = refl
+no-print A u k c a-range n = refl
+no-print A u k c a-next n = refl
+no-print A u k c a-jump n = refl
 
 module _ (A : Actions) (u : ℕ) (code : List ℕ) (pc used : ℕ) (s : List ℕ) (buffer : Text) (ss cs vs : List ℕ) (h : pc < length code) where
   abbrev from : Held
@@ -123,9 +91,7 @@ module _ (A : Actions) (u : ℕ) (code : List ℕ) (pc used : ℕ) (s : List ℕ
 
   pub act-step : (kind-of (getD code pc 0) ≡ Fields.PRINT → ⊥) → (c′ : Held) → c′ ≡ turn A u code from → Turned A u code from false c′
   unfolding is-full
-  act-step n c′ e =
-      let k = silent-word pc (kind-of (getD code pc 0)) (p-of (getD code pc 0)) (q-of (getD code pc 0)) n in
-      record { fits = silent-fits A u (instr code pc) from (ap is-printing (instr-decoded code pc h) ∙ k .silent); same = e }
+  act-step n c′ e = record { fits = no-print A u (kind-of (getD code pc 0)) from (instr-is code pc h) n; same = e }
 
   module _ (k : kind-of (getD code pc 0) ≡ Fields.PRINT) {r : ℕ} {out t : List ℕ} (p : Printed buffer used (A .prints vs s pc) r out) (q : t ≡ A .leaves vs s pc) where
     abbrev x : Text

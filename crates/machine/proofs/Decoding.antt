@@ -1,14 +1,44 @@
 -- The instruction of a word, by its kind.
-use Prim.Native.Nat.{ℕ, suc, _%_, _≤_, _<_}
-use native.Mathlib.Omega.{arith}
-use mathlib.Core.Path.{_≡_, refl, sym, ap, _∙_}
+use Prim.Native.Nat.{ℕ, _%_, _≤_, _<_}
+use mathlib.Core.Path.{_≡_, refl, sym, ap, subst, _∙_}
 use mathlib.Core.Bool.{Bool, true, false, cond}
 use mathlib.Core.List.{List}
 use lib.Dec.{eqb, ltb}
 use lib.ListN.{length, getD}
-use borrow.Author.Tests.{lt-ltb, le-ltb, ne-eqb}
+use borrow.Author.Tests.{lt-ltb, le-ltb, ne-eqb, eqb-true}
 use Rattle.words.specs.Fields as Fields
 use Rattle.machine.specs.Instructions.{Instr, END, PASS, ASSIGN, PRINT, TEST, AGAIN, RANGE, NEXT, JUMP, decode, instr}
+use Rattle.definition.proofs.BoolLaws.{apart}
+
+-- what a word of kind k may be: anything but the end, and a PRINT if that is its kind
+pub data Decoded (k : ℕ) : Instr → Type 0 where
+  a-pass : Decoded k PASS
+  an-assign : Decoded k ASSIGN
+  a-print : k ≡ Fields.PRINT → Decoded k PRINT
+  a-test : {n : ℕ} → Decoded k (TEST n)
+  an-again : {n : ℕ} → Decoded k (AGAIN n)
+  a-range : {d n : ℕ} → Decoded k (RANGE d n)
+  a-next : {d n : ℕ} → Decoded k (NEXT d n)
+  a-jump : {n : ℕ} → Decoded k (JUMP n)
+
+decoded : (at k p q : ℕ) → Decoded k (decode at k p q)
+unfolding decode
+decoded at k p q =
+    either (eqb k Fields.ASSIGN) an-assign
+    (prints (eqb k Fields.PRINT) refl
+    (either (eqb k Fields.TEST) a-test
+    (either (eqb k Fields.AGAIN) an-again
+    (either (eqb k Fields.RANGE) a-range
+    (either (eqb k Fields.NEXT) a-next
+    (either (eqb k Fields.JUMP) (either (ltb at q) a-jump a-pass) a-pass))))))
+  where
+    either : (b : Bool) {x y : Instr} → Decoded k x → Decoded k y → Decoded k (cond b x y)
+    either true x y = x
+    either false x y = y
+
+    prints : (b : Bool) → eqb k Fields.PRINT ≡ b → {y : Instr} → Decoded k y → Decoded k (cond b PRINT y)
+    prints true e y = a-print (eqb-true k Fields.PRINT e)
+    prints false e y = y
 
 abbrev is-end : Instr → Bool
 is-end END = true
@@ -21,26 +51,15 @@ is-end (RANGE d n) = false
 is-end (NEXT d n) = false
 is-end (JUMP n) = false
 
-record GoesOn (i : Instr) : Type 0 where
-  goes-on : is-end i ≡ false
-
-either : (b : Bool) {x y : Instr} → GoesOn x → GoesOn y → GoesOn (cond b x y)
-either true p q = p
-either false p q = q
-
-pass-on : GoesOn PASS
-pass-on = record { goes-on = refl }
-
-decoded-goes-on : (at k p q : ℕ) → GoesOn (decode at k p q)
-unfolding decode
-decoded-goes-on at k p q =
-    either (eqb k Fields.ASSIGN) (record { goes-on = refl })
-    (either (eqb k Fields.PRINT) (record { goes-on = refl })
-    (either (eqb k Fields.TEST) (record { goes-on = refl })
-    (either (eqb k Fields.AGAIN) (record { goes-on = refl })
-    (either (eqb k Fields.RANGE) (record { goes-on = refl })
-    (either (eqb k Fields.NEXT) (record { goes-on = refl })
-    (either (eqb k Fields.JUMP) (either (ltb at q) (record { goes-on = refl }) pass-on) pass-on))))))
+not-end : {k : ℕ} {i : Instr} → Decoded k i → is-end i ≡ false
+not-end a-pass = refl
+not-end an-assign = refl
+not-end (a-print e) = refl
+not-end a-test = refl
+not-end an-again = refl
+not-end a-range = refl
+not-end a-next = refl
+not-end a-jump = refl
 
 -- a kind of no statement, as the code's match tells it
 abbrev pub Other : ℕ → Type 0
@@ -61,11 +80,11 @@ module _ (code : List ℕ) (at : ℕ) where
     unfolding instr
     instr-decoded = rw (lt-ltb _ _ h) refl
 
+    pub instr-is : Decoded (Fields.kind-of the-word) (instr code at)
+    instr-is = subst (Decoded (Fields.kind-of the-word)) (sym instr-decoded) (decoded at (Fields.kind-of the-word) (Fields.p-of the-word) (Fields.q-of the-word))
+
     pub instr-goes-on : instr code at ≡ END → ⊥
-    instr-goes-on e =
-        let z : _≡_ {A = Bool} true false = ap is-end (sym e ∙ instr-decoded) ∙ decoded-goes-on at (Fields.kind-of the-word) (Fields.p-of the-word) (Fields.q-of the-word) .goes-on in
-        let y : _≡_ {A = ℕ} 0 1 = cc in
-        omega arith
+    instr-goes-on e = apart (ap is-end (sym e) ∙ not-end instr-is)
 
     instr-kind : (k : ℕ) → Fields.kind-of the-word ≡ k → instr code at ≡ decode at k (Fields.p-of the-word) (Fields.q-of the-word)
     instr-kind k e = instr-decoded ∙ ap (λ j. decode at j (Fields.p-of the-word) (Fields.q-of the-word)) e
