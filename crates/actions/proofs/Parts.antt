@@ -2,13 +2,13 @@
 use Prim.Native.Nat.{ℕ, zero, suc, _+_, _-_, _<_, _≤_}
 use mathlib.Core.Path.{_≡_, refl, sym, ap, ap₂, _∙_}
 use mathlib.Core.Bool.{Bool, true, false, cond}
-use mathlib.Core.List.{List, _++_, append-assoc}
+use mathlib.Core.List.{List, append-assoc}
 use native.Mathlib.Numerals.{add-one}
 use native.Mathlib.Omega.{arith}
 use borrow.Author.Tests.{eq-eqb, ne-eqb, lt-leb, le-leb}
 use borrow.Rule.Slice.PartMut.{midOf, putMid}
 use lib.Dec.{eqb, leb}
-use lib.ListN.{length, getD, take, drop, replicate, length-replicate, length-drop}
+use lib.ListN.{length, getD, drop, replicate, length-replicate, length-drop}
 use lib.Seq.{sets, sets-eq, drop-drop, length-take-le}
 use Rattle.words.specs.Fields.{kind-of, RANGE, NEXT, ASSIGN, TEST, JUMP, AGAIN, PRINT, CLOSURE}
 use Rattle.eval.specs.Nodes.{c-of}
@@ -20,6 +20,14 @@ pub no-statement : (k : ℕ) → ((((((Unit {0} × (k ≡ RANGE → ⊥)) × (k 
 unfolding is-statement
 no-statement k z =
     sym (simp (ne-eqb _ _ (z .0 .0 .0 .0 .0 .0 .1), ne-eqb _ _ (z .0 .0 .0 .0 .0 .1), ne-eqb _ _ (z .0 .0 .0 .0 .1), ne-eqb _ _ (z .0 .0 .0 .1), ne-eqb _ _ (z .0 .0 .1), ne-eqb _ _ (z .0 .1), ne-eqb _ _ (z .1)))
+
+-- over words that are no statement's own the start stays
+pub start-quiet : (words : List ℕ) (s m : ℕ) → start words s ≡ s → ((i : ℕ) → s ≤ i → i < s + m → is-statement (kind-of (getD words i 0)) ≡ false) → start words (s + m) ≡ s
+unfolding start
+start-quiet words s zero e q = let z : s + 0 ≡ s = omega arith in rw z e
+start-quiet words s (suc m) e q =
+    let z : s + suc m ≡ suc (s + m) = omega arith in
+    rw (z, q (s + m) (omega arith) (omega arith)) (start-quiet words s m e (λ i l h. q i l (omega arith)))
 
 -- a search back from a place that has come to n
 module _ (words : List ℕ) (at n : ℕ) (h : start words n ≡ start words at) where

@@ -1,9 +1,9 @@
 -- A statement's words, from its first one up to its own: where its closures are worked out, and that the store is left as it was.
-use Prim.Native.Nat.{ℕ, zero, suc, _+_, _-_, _*_, _<_, _≤_}
+use Prim.Native.Nat.{ℕ, _+_, _-_, _*_, _<_, _≤_}
 use mathlib.Core.Path.{_≡_, refl, ap, ap₂, subst, _∙_}
-use mathlib.Core.Bool.{true, false}
+use mathlib.Core.Bool.{true}
 use mathlib.Core.List.{List}
-use native.Mathlib.Nat.{add-zero, add-suc, mul-le-mul-right}
+use native.Mathlib.Nat.{mul-le-mul-right}
 use native.Mathlib.Omega.{arith}
 use lib.ListN.{length, getD}
 use Rattle.definition.specs.Text.{Text}
@@ -16,9 +16,10 @@ use Rattle.words.specs.Fields.{kind-of}
 use Rattle.eval.specs.Nodes.{c-of}
 use Rattle.closures.specs.Filling.{fill-words}
 use Rattle.meaning.specs.Lowered.{Placed, Sequence}
-use Rattle.actions.specs.Parts.{is-statement, start, clear-words}
+use Rattle.actions.specs.Parts.{start, clear-words}
 use Rattle.actions.specs.Doing.{filled, cleared, left-by}
 use Rattle.actions.proofs.Restored.{touched, touching, restored}
+use Rattle.actions.proofs.Parts.{start-quiet}
 use Rattle.code.specs.Layout.{Laid}
 use Rattle.code.specs.Statements.{Named, Whole}
 use Rattle.machine.specs.Actions.{Actions, Leaves}
@@ -32,14 +33,6 @@ pub record Part (w : Accepted) (β : Text → ℕ) (scope : List Text) (low : Li
   pub own : k ≡ s + m
   pub words : Sequence w β scope low s m 0 es
 
--- what belongs to a statement begins where the statement does
-start-at : (low : List ℕ) (s m : ℕ) → start low s ≡ s → ((i : ℕ) → s ≤ i → i < s + m → is-statement (kind-of (getD low i 0)) ≡ false) → start low (s + m) ≡ s
-start-at low s zero b q = rw add-zero b
-start-at low s (suc m) b q = ap (start low) (add-suc s m) ∙ one ∙ start-at low s m b (λ i h l. q i h (omega arith))
-  where
-    one : start low (suc (s + m)) ≡ start low (s + m)
-    one = unfold start in rw (q (s + m) (omega arith) (omega arith)) refl
-
 module _ (w : Accepted) (firsts : List ℕ) (scr : ℕ) (laid : Laid w firsts scr) (low : List ℕ) {β : Text → ℕ} {scope : List Text} {s m k : ℕ} {es : List Placed}
     (part : Part w β scope low s m k es) where
   abbrev u : ℕ
@@ -49,7 +42,7 @@ module _ (w : Accepted) (firsts : List ℕ) (scr : ℕ) (laid : Laid w firsts sc
   base = relation-words u (w .relations)
 
   starts : start low k ≡ s
-  starts = ap (start low) (part .own) ∙ start-at low s m (part .whole .begins) (λ i h l. part .whole .quiet i h (omega (arith, part .own)))
+  starts = ap (start low) (part .own) ∙ start-quiet low s m (part .whole .begins) (λ i h l. part .whole .quiet i h (omega (arith, part .own)))
 
   count : k - start low k ≡ m
   count = omega (arith, starts, part .own)

@@ -9,9 +9,9 @@ use lib.ListN.{length, getD}
 use Rattle.definition.specs.Text.{Text, same, member, some-of}
 use Rattle.definition.specs.Accept.{Accepted, elements}
 use Rattle.definition.specs.Meaning.{bind}
-use Rattle.definition.proofs.MeaningLaws.{same-eq}
+use Rattle.definition.proofs.MeaningLaws.{same-eq, member-first, member-later}
 use Rattle.meaning.specs.Ready.{Loops}
-use Rattle.meaning.proofs.Fit.{head-in, tail-in, rest-in}
+use Rattle.meaning.proofs.Fit.{rest-in}
 use Rattle.code.specs.Statements.{depth-in, Named}
 use Rattle.machine.specs.Actions.{scope-environment}
 
@@ -39,10 +39,10 @@ depth-low v (x ∷ xs) m = go (same x v) refl (depth-low v xs)
 pub outside-zero : (v : Text) (scope : List Text) (vs : List ℕ) → (T (member v scope) → ⊥) → scope-environment scope vs v ≡ 0
 unfolding scope-environment bind
 outside-zero v [] vs h = refl
-outside-zero v (x ∷ xs) vs h = go (same x v) refl (outside-zero v xs vs (λ m. h (tail-in x v xs m)))
+outside-zero v (x ∷ xs) vs h = go (same x v) refl (outside-zero v xs vs (λ m. h (member-later x v xs m)))
   where
     go : (b : Bool) → same x v ≡ b → scope-environment xs vs v ≡ 0 → cond b (getD vs (length xs) 0) (scope-environment xs vs v) ≡ 0
-    go true e ih = absurd (h (rw (same-eq x v (rw e tt)) (head-in v xs)))
+    go true e ih = absurd (h (rw (same-eq x v (rw e tt)) (member-first v xs)))
     go false e ih = ih
 
 module _ (w : Accepted) (β : Text → ℕ) (scope : List Text) (named : Named scope β) (vs : List ℕ) (inside : (d : ℕ) → d < length scope → getD vs d 0 < elements w) where
