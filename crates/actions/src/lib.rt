@@ -3,7 +3,6 @@ ghost use mathlib.Core.Path.{_≡_};
 ghost use mathlib.Core.Bool.{_&&_};
 ghost use Prim.Native.Nat.{_+_, _-_, _<_, _≤_};
 ghost use lib.Dec.{leb};
-ghost use lib.ListN.{length, getD};
 ghost use Rattle.words.specs.Fields.{kind-of};
 ghost use Rattle.actions.specs.Parts.{is-statement, start, clear-word, clear-words};
 ghost use Rattle.lines.specs.Lines.{texts};
@@ -16,12 +15,7 @@ use eval::row;
 use prints::print;
 use scratch::clear;
 use tuples::table_words;
-
-fn word_at(s: &[u64], i: usize) -> u64
-    ensures { λ r. ⌜ r ≡ getD (now (s .entry)) i 0 ⌝ }
-{
-    if i < s.len() { s[i] } else { 0 }
-}
+use words::word_at;
 
 // Whether a word is a statement's own.
 pub fn statement(w: u64) -> bool

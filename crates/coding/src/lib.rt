@@ -2,25 +2,13 @@
 ghost use mathlib.Core.Path.{_≡_};
 ghost use mathlib.Core.List.{[]};
 ghost use Prim.Native.Nat.{ℕ, _+_, _≤_, _<_};
-ghost use lib.ListN.{length, getD, set};
+ghost use lib.ListN.{length, getD};
 ghost use Rattle.free.specs.Words.{Small};
 ghost use Rattle.coding.specs.Pass.{depths-after, is-named, token-part, string-code, name-code, code-of, Passed};
 ghost use Rattle.coding.specs.Turns.{Shallow, with-code, Coded, Turned};
 use slots::Found;
-
-fn word_at(s: &[u64], i: usize) -> u64
-    ensures { λ r. ⌜ r ≡ getD (now (s .entry)) i 0 ⌝ }
-{
-    if i < s.len() { s[i] } else { 0 }
-}
-
-fn put_at(s: &mut [u64], i: usize, v: u64)
-    ensures { λ _. ⌜ now (s .exit) ≡ set (now (s .entry)) i v ⌝ }
-{
-    if i < s.len() {
-        s[i] = v;
-    }
-}
+use words::put_at;
+use words::word_at;
 
 // Whether a word of a kind has the token of a name or a string.
 fn is_named(k: u64) -> bool

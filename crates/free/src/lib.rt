@@ -1,16 +1,11 @@
 // Free attributes of the words of a statement, bottom up.
 ghost use mathlib.Core.Path.{_≡_};
-ghost use Prim.Native.Nat.{_+_, _*_, _≤_, _<_};
-ghost use lib.ListN.{length, getD};
+ghost use Prim.Native.Nat.{_≤_, _<_};
+ghost use lib.ListN.{length};
 ghost use Rattle.slots.specs.Slots.{digit-at};
 ghost use Rattle.free.specs.Words.{is-leaf, at, below, terms, operator, free-word, Filled, Small};
 use slots::Found;
-
-fn word_at(s: &[u64], i: usize) -> u64
-    ensures { λ r. ⌜ r ≡ getD (now (s .entry)) i 0 ⌝ }
-{
-    if i < s.len() { s[i] } else { 0 }
-}
+use words::word_at;
 
 // Whether a word of a kind is a term's.
 fn is_leaf(c: u64) -> bool

@@ -10,8 +10,10 @@ ghost use Rattle.definition.specs.Syntax.{Program};
 ghost use Rattle.definition.specs.Names.{in-program, use-names, fact-kinds};
 ghost use Rattle.facts.specs.Words.{relation-of};
 ghost use Rattle.kinds.specs.Resolved.{Parsed, Resolved, fact-code, FactsKnown};
-ghost use Rattle.kinds.specs.Walk.{relation-rule, attribute-rule, variable-rule, bind-rule, enter-rule, leave-rule, rule-of, State, state, use-at, step, walk, meets};
+ghost use Rattle.kinds.specs.Walk.{relation-rule, attribute-rule, variable-rule, bind-rule, enter-rule, leave-rule, rule-of, state, use-at, step, walk, meets};
 use definition::Refusal;
+use words::put_at;
+use words::word_at;
 
 // What the use of a name leads to: what is known of it then, a new relation of so many terms, or row 11 or 5.
 pub enum Rule {
@@ -25,20 +27,6 @@ pub enum Rule {
 pub enum Named {
     Done(usize),
     Refused(Refusal),
-}
-
-fn word_at(s: &[u64], i: usize) -> u64
-    ensures { λ r. ⌜ r ≡ getD (now (s .entry)) i 0 ⌝ }
-{
-    if i < s.len() { s[i] } else { 0 }
-}
-
-fn put_at(s: &mut [u64], i: usize, v: u64)
-    ensures { λ _. ⌜ now (s .exit) ≡ set (now (s .entry)) i v ⌝ }
-{
-    if i < s.len() {
-        s[i] = v;
-    }
 }
 
 fn put_relation(s: &mut [usize], i: usize, v: usize)

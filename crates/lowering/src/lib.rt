@@ -1,17 +1,11 @@
 // Lowering: each raw word of a statement becomes the word that evaluation and the step loop read, at the same place.
 ghost use mathlib.Core.Path.{_≡_};
-ghost use Prim.Native.Nat.{_+_, _-_, _%_, _<_, _≤_};
+ghost use Prim.Native.Nat.{_-_, _%_, _<_, _≤_};
 ghost use lib.ListN.{length, getD};
-ghost use Rattle.digits.specs.Packed.{count};
 ghost use Rattle.intern.specs.Entries.{start-of};
 ghost use Rattle.slots.specs.Slots.{one-closure};
-ghost use Rattle.lowering.specs.Lowering.{lowered, slot-of, slots-of, slot-bit, mask, at, term-byte, label-place, depth-of, range-field, closure-field, comparison-field, closures-before, operands-at, may-stand, all-stand, kind-field, node-p, p-field, operand-field, count-field, lower-word, lower-at, Filled};
-
-fn word_at(s: &[u64], i: usize) -> u64
-    ensures { λ r. ⌜ r ≡ getD (now (s .entry)) i 0 ⌝ }
-{
-    if i < s.len() { s[i] } else { 0 }
-}
+ghost use Rattle.lowering.specs.Lowering.{lowered, slot-of, slots-of, slot-bit, mask, at, term-byte, label-place, depth-of, range-field, closure-field, comparison-field, operands-at, may-stand, all-stand, kind-field, node-p, p-field, operand-field, count-field, lower-word, lower-at, Filled};
+use words::word_at;
 
 fn pack(k: u64, p: u64, o: u64, n: u64) -> u64
     requires { ⌜ (k < 256) × ((p < 65536) × ((o < 4294967296) × (n < 256))) ⌝ }

@@ -10,13 +10,13 @@ ghost use Rattle.definition.specs.Names.{Use, variables, statement-rows, progra
 ghost use Rattle.words.specs.Raw.{flat-program};
 ghost use Rattle.words.specs.Tokens.{OwnProgram};
 ghost use Rattle.words.specs.Parts.{ends, parts};
-ghost use Rattle.digits.specs.Packed.{plus};
 ghost use Rattle.slots.specs.Slots.{digit-at, closure-count};
 ghost use Rattle.free.specs.Words.{at, Small};
 ghost use Rattle.rows.specs.Tests.{fits, all-fit, left-from, same-digits, own-fits, too-much};
 ghost use Rattle.rows.specs.Statements.{meets, Setting, vs, Stated, Rows, turned, next, Near};
 use definition::Refusal;
 use slots::Found;
+use words::word_at;
 
 // Whether statements keep the limits, or why they are refused.
 pub enum Ruled {
@@ -28,12 +28,6 @@ pub enum Ruled {
 pub enum Turn {
     On(usize),
     Stop(Refusal),
-}
-
-fn word_at(s: &[u64], i: usize) -> u64
-    ensures { λ r. ⌜ r ≡ getD (now (s .entry)) i 0 ⌝ }
-{
-    if i < s.len() { s[i] } else { 0 }
 }
 
 // What stands before place j.

@@ -1,20 +1,15 @@
 // The attribute names of a statement, and its closures.
 ghost use mathlib.Core.Path.{_≡_};
-ghost use Prim.Native.Nat.{ℕ, _+_, _≤_, _<_};
+ghost use Prim.Native.Nat.{ℕ, _≤_};
 ghost use mathlib.Core.List.{List, []};
-ghost use lib.ListN.{length, getD, take};
+ghost use lib.ListN.{take};
 ghost use Rattle.slots.specs.Slots.{takes, of-loop, add-name, add-word, names-of, Holds, place-from, digit-at, one-closure, closure-count};
+use words::word_at;
 
 // Up to four names in order of first occurrence; a count of 5 stands for more.
 pub struct Found {
     pub names: [u64; 4],
     pub count: usize,
-}
-
-fn word_at(s: &[u64], i: usize) -> u64
-    ensures { λ r. ⌜ r ≡ getD (now (s .entry)) i 0 ⌝ }
-{
-    if i < s.len() { s[i] } else { 0 }
 }
 
 // Whether a word of a kind stands where an attribute may.

@@ -7,7 +7,7 @@ use Rattle.actions.proofs.assign_at.Lts as lts
 use Rattle.actions.proofs.assign_word.Reads as assign-word-reads
 use Rattle.actions.proofs.clear_closures.Reads as clear-closures-reads
 use Rattle.actions.proofs.start_of.Reads as start-of-reads
-use Rattle.actions.proofs.word_at.Reads as word-at-reads
+use Rattle.words.proofs.word_at.Reads as word-at-reads
 use Rattle.closures.proofs.fill_closures.Reads as fill-closures-reads
 
 start-of-requires : tie.Need-start-of-requires

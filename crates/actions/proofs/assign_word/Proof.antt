@@ -11,7 +11,7 @@ use Rattle.actions.proofs.assign_word.Lts as lts
 use Rattle.actions.proofs.has_room.Reads as has-room-reads
 use Rattle.actions.proofs.left_side.Reads as left-side-reads
 use Rattle.actions.proofs.root_of.Reads as root-of-reads
-use Rattle.actions.proofs.word_at.Reads as word-at-reads
+use Rattle.words.proofs.word_at.Reads as word-at-reads
 use Rattle.assignment.proofs.assign.Reads as assign-reads
 use Rattle.tuples.proofs.table_words.Reads as table-words-reads
 

@@ -9,7 +9,7 @@ use Rattle.actions.proofs.clear_word.Statement.{statement}
 use Rattle.actions.proofs.clear_word.Tie as tie
 use Rattle.actions.proofs.clear_word.Reads as reads
 use Rattle.actions.proofs.clear_word.Lts as lts
-use Rattle.actions.proofs.word_at.Reads as word-at-reads
+use Rattle.words.proofs.word_at.Reads as word-at-reads
 use Rattle.scratch.proofs.clear.Reads as clear-reads
 
 word-at-requires : tie.Need-word-at-requires

@@ -7,7 +7,7 @@ use Rattle.actions.proofs.range_at.Lts as lts
 use Rattle.actions.proofs.clear_closures.Reads as clear-closures-reads
 use Rattle.actions.proofs.root_of.Reads as root-of-reads
 use Rattle.actions.proofs.start_of.Reads as start-of-reads
-use Rattle.actions.proofs.word_at.Reads as word-at-reads
+use Rattle.words.proofs.word_at.Reads as word-at-reads
 use Rattle.closures.proofs.fill_closures.Reads as fill-closures-reads
 use Rattle.eval.proofs.row.Reads as row-reads
 

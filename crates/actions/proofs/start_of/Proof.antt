@@ -10,7 +10,7 @@ use Rattle.actions.proofs.start_of.Tie as tie
 use Rattle.actions.proofs.start_of.Reads as reads
 use Rattle.actions.proofs.start_of.Lts as lts
 use Rattle.actions.proofs.statement.Reads as statement-reads
-use Rattle.actions.proofs.word_at.Reads as word-at-reads
+use Rattle.words.proofs.word_at.Reads as word-at-reads
 
 abbrev Inv-loop : tie.InvT-loop
 Inv-loop words at n₀ n = (n ≤ at) × (start words n ≡ start words at)

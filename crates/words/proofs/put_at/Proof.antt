@@ -1,8 +1,8 @@
 use mathlib.Core.Path.{sym}
 use lib.Seq.{set-out}
 use borrow.Author.Needs.{needs}
-use Rattle.kinds.proofs.put_at.Statement.{statement}
-use Rattle.kinds.proofs.put_at.Tie as tie
+use Rattle.words.proofs.put_at.Statement.{statement}
+use Rattle.words.proofs.put_at.Tie as tie
 
 mul-s : tie.Need-mul-s
 mul-s c = search needs
