@@ -1,7 +1,7 @@
 -- How the passes make up the answer, and what the arrays hold then.
 use Prim.Native.Nat.{ℕ, _+_, _<_, _≤_}
 use mathlib.Core.Path.{_≡_, refl, sym, ap, ap₂, subst, _∙_}
-use mathlib.Core.List.{List, [], _∷_, map}
+use mathlib.Core.List.{List}
 use native.Mathlib.Omega.{arith}
 use lib.ListN.{length, getD, take}
 use lib.Seq.{length-take-le, take-length, take-take}
@@ -12,7 +12,7 @@ use Rattle.definition.specs.Syntax.{Program}
 use Rattle.definition.specs.Answer.{Answer, ok, refused, number, place}
 use Rattle.definition.specs.Facts.{Facts, Relation, read-facts, use-elements}
 use Rattle.definition.specs.Names.{Kinds, in-program, use-names, fact-kinds, variables, program-rows, left-strings}
-use Rattle.definition.specs.Accept.{Accepted, accept, read-query}
+use Rattle.definition.specs.Accept.{Accepted, accept}
 use Rattle.definition.specs.declared.Refusal.{Refusal}
 use Rattle.definition.specs.declared.Refusal.the-variants as Refusal
 use Rattle.definition.proofs.AcceptLaws as AcceptLaws
@@ -40,7 +40,7 @@ use Rattle.parser.specs.Queries.{ReadAs, IsRead}
 use Rattle.universe.specs.Strings.{WithStrings, StringsMeet}
 use Rattle.universe.specs.declared.Strings.{Strings}
 use Rattle.universe.specs.declared.Strings.the-variants as Strings
-use Rattle.universe.proofs.Filling.{Filled, filled}
+use Rattle.universe.proofs.Filling.{filled}
 use Rattle.acceptance.specs.declared.Sizes.{Sizes}
 use Rattle.acceptance.specs.declared.Texts.{Texts}
 use Rattle.acceptance.specs.declared.Texts.the-variants as Texts

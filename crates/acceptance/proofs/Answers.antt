@@ -1,9 +1,8 @@
 -- What a caller has of the answer.
-use Prim.Native.Nat.{ℕ, _≤_}
-use mathlib.Core.Path.{_≡_, refl, sym, ap, subst, _∙_}
+use Prim.Native.Nat.{ℕ}
+use mathlib.Core.Path.{_≡_, subst}
 use mathlib.Core.List.{List}
 use native.Mathlib.Omega.{arith}
-use lib.ListN.{length, take}
 use Rattle.definition.specs.Text.{Text}
 use Rattle.definition.specs.Limits.{document-01}
 use Rattle.definition.specs.Answer.{refused, number, place}

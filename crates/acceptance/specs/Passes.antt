@@ -2,7 +2,7 @@
 use Prim.Native.Nat.{ℕ, _<_, _≤_}
 use mathlib.Core.Path.{_≡_}
 use mathlib.Core.List.{List}
-use lib.ListN.{length, getD, take}
+use lib.ListN.{length, getD}
 use Rattle.definition.specs.Text.{Text}
 use Rattle.definition.specs.Limits.{document-01}
 use Rattle.definition.specs.Token.{Token}

@@ -1,5 +1,5 @@
 // Whether two texts are accepted: the passes over both, in document 01's order, and what they leave in the lent arrays.
-ghost use Prim.Native.Nat.{ℕ, _+_, _≤_, _<_};
+ghost use Prim.Native.Nat.{ℕ, _≤_, _<_};
 ghost use mathlib.Core.Path.{_≡_};
 ghost use mathlib.Core.List.{List};
 ghost use lib.ListN.{length, take};
@@ -19,7 +19,7 @@ use kinds::resolve;
 use parser::QueryRead;
 use parser::read_query;
 use rows::Ruled;
-use rows::check;
+use rows::program_rows;
 use universe::Strings;
 use universe::enter_strings;
 
@@ -78,7 +78,7 @@ fn with_names<'a>(
     requires { ⌜ Small (now fr) ⌝ }
     ensures { λ r. ⌜ ((given relations′ : List ℕ) (ts : List Token) (p : Program) (k : Kinds) → FactsIn (now (facts .entry)) (now (query .entry)) given (now (places .entry)) c → QueryIn (now (query .entry)) (now (tokens .entry)) (now (words .entry)) ts p → NamesIn (now (facts .entry)) (now (query .entry)) (now (tokens .entry)) (now (ids .entry)) (now (known .entry)) (take (c .relations) given) relations′ relations p k → Accepts (now (facts .entry)) (now (query .entry)) (now (tokens .entry)) (now (words .entry)) (now (ids .entry)) (now (known .entry)) relations′ (now (places .exit)) r) ⌝ }
 {
-    match check(words, ids, known, fr) {
+    match program_rows(words, ids, known, fr) {
         Ruled::Refused(q) => Texts::Refused(q),
         Ruled::Fine => with_rows(facts, query, tokens, words, places, c, relations),
     }

@@ -1,5 +1,5 @@
 -- Where a statement's closures find zeros, the store is left as it was.
-use Prim.Native.Nat.{ℕ, zero, suc, _+_, _-_, _%_, _<_, _≤_}
+use Prim.Native.Nat.{ℕ, zero, suc, _+_, _%_, _<_, _≤_}
 use mathlib.Core.Path.{_≡_, refl, sym, ap, _∙_}
 use mathlib.Core.Bool.{Bool, true, false, _&&_, _||_, cond}
 use mathlib.Core.List.{List, [], _∷_}
@@ -18,8 +18,7 @@ use Rattle.closures.specs.Filling.{fill-word, fill-words}
 use Rattle.closures.proofs.Parts.{closure-length}
 use Rattle.closures.proofs.Fills.{fill-other, fill-short, fill-here}
 use Rattle.tuples.proofs.Stores.{getD-sets-after}
-use Rattle.actions.specs.Parts.{start, clear-word, clear-words}
-use Rattle.actions.specs.Doing.{filled, cleared, left-by}
+use Rattle.actions.specs.Parts.{clear-word, clear-words}
 use Rattle.actions.proofs.Parts.{clear-other, clear-short, clear-here}
 
 getD-sets-before : (xs l : List ℕ) (i j : ℕ) → j < i → getD (sets l i xs) j 0 ≡ getD l j 0
@@ -198,9 +197,3 @@ module _ (firsts vs : List ℕ) (u : ℕ) (words : List ℕ) (size : ℕ) where
   pub restored : (n k : ℕ) (s : List ℕ) → length s ≡ size → ((i : ℕ) → touched n k i ≡ true → getD s i 0 ≡ 0)
       → clear-words firsts u words n k (fill-words firsts vs u words n k s) ≡ s
   restored n k s z h = cleared-to n k (fill-words firsts vs u words n k s) s (filled-length n k s z) z h (λ i e. fills n k s z i e)
-
-  -- so an action that changes no table leaves the store as it was
-  pub left-same : (s : List ℕ) (at : ℕ) → length s ≡ size → ((i : ℕ) → touched (at - start words at) (start words at) i ≡ true → getD s i 0 ≡ 0)
-      → left-by words firsts u vs s at ≡ s
-  unfolding left-by cleared filled
-  left-same s at z h = restored (at - start words at) (start words at) s z h

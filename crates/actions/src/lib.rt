@@ -15,6 +15,7 @@ use eval::row;
 use prints::print;
 use scratch::clear;
 use tuples::table_words;
+use words::previous;
 use words::word_at;
 
 // Whether a word is a statement's own.
@@ -45,13 +46,6 @@ fn start_of(words: &[u64], at: usize) -> usize
         n -= 1;
     }
     n
-}
-
-// The place of the root of the expression of the statement at a place.
-fn root_of(at: usize) -> usize
-    ensures { λ r. ⌜ r ≡ at - 1 ⌝ }
-{
-    if at == 0 { 0 } else { at - 1 }
 }
 
 // The table of the closure at place k zero again, if there is one and its table lies in the store.
@@ -98,7 +92,7 @@ pub fn test_at(
 {
     let lo = start_of(words, at);
     fill_closures(words, store, firsts, vars, u, lo, at);
-    let r = eval(words, store, firsts, vars, u, root_of(at), [0u8; 8]);
+    let r = eval(words, store, firsts, vars, u, previous(at), [0u8; 8]);
     clear_closures(words, store, firsts, u, lo, at);
     r
 }
@@ -119,7 +113,7 @@ pub fn range_at(
     let lo = start_of(words, at);
     let slot = (word_at(words, at) / 1099511627776 % 256) as u8;
     fill_closures(words, store, firsts, vars, u, lo, at);
-    let r = row(words, store, firsts, vars, u, root_of(at), [0u8; 8], slot);
+    let r = row(words, store, firsts, vars, u, previous(at), [0u8; 8], slot);
     clear_closures(words, store, firsts, u, lo, at);
     r
 }
@@ -175,7 +169,7 @@ fn assign_word(
     if !has_room(off, len, scr, store.len()) {
         return;
     }
-    let e = root_of(at);
+    let e = previous(at);
     assign(
         words,
         store,

@@ -1,5 +1,5 @@
 -- The code of one statement, kind by kind, from the agreement of its arrays.
-use Prim.Native.Nat.{ℕ, zero, suc, _+_, _*_, _-_, _/_, _%_, _<_, _≤_}
+use Prim.Native.Nat.{ℕ, zero, suc, _+_, _*_, _-_, _%_, _<_, _≤_}
 use mathlib.Core.Path.{_≡_, refl, sym, ap, ap₂, subst, _∙_}
 use mathlib.Core.Bool.{Bool, true, false, cond, _&&_}
 use mathlib.Core.Logic.{⊎-elim}
@@ -44,25 +44,6 @@ use Rattle.coded.proofs.Bytes.{never, of-true, named}
 use Rattle.coded.proofs.Given.{Case, Place}
 use Rattle.coded.proofs.Agreeing.{own-tokens, In, β, Clear, short, apart, clear-first, agrees, spelled, filled}
 use Rattle.coded.proofs.Scoping.{Closed, Placed, scoped, scoped-lefts, scoped-items, known-relation}
-
--- four bytes of a word
-byte-a : (a b c d : ℕ) → a < 256 → (a + b * 256 + c * 65536 + d * 16777216) % 256 ≡ a
-byte-a a b c d h = omega arith
-
-byte-b : (a b c d : ℕ) → a < 256 → b < 256 → (a + b * 256 + c * 65536 + d * 16777216) / 256 % 256 ≡ b
-byte-b a b c d h k =
-    let q : (a + b * 256 + c * 65536 + d * 16777216) / 256 ≡ b + (c + d * 256) * 256 = omega arith in
-    let r : (b + (c + d * 256) * 256) % 256 ≡ b = omega arith in
-    rw q r
-
-byte-c : (a b c d : ℕ) → a < 256 → b < 256 → c < 256 → (a + b * 256 + c * 65536 + d * 16777216) / 65536 % 256 ≡ c
-byte-c a b c d h k l =
-    let q : (a + b * 256 + c * 65536 + d * 16777216) / 65536 ≡ c + d * 256 = omega arith in
-    let r : (c + d * 256) % 256 ≡ c = omega arith in
-    rw q r
-
-byte-d : (a b c d : ℕ) → a < 256 → b < 256 → c < 256 → (a + b * 256 + c * 65536 + d * 16777216) / 16777216 ≡ d
-byte-d a b c d h k l = omega arith
 
 -- lists of no and of one name
 no-names : (xs : List Text) → length xs ≡ 0 → xs ≡ []

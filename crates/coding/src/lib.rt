@@ -30,12 +30,7 @@ fn is_named(k: u64) -> bool
 fn token_part(x: u64) -> usize
     ensures { λ r. ⌜ r ≡ token-part x ⌝ }
 {
-    let at = (x / 4096) as usize;
-    let n = (x / 64 % 64) as usize;
-    if x % 64 == 48 {
-        return (((at + 1) * 64 + n) * 2 + 1) * 4;
-    }
-    ((at * 64 + n) * 2 + 1) * 4
+    ((intern::start(x) * 64 + (x / 64 % 64) as usize) * 2 + 1) * 4
 }
 
 // The number of a string's element, or 255.

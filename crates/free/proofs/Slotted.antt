@@ -1,21 +1,20 @@
 -- A statement's attribute names as digits: one more than their place in its list of names.
-use Prim.Native.Nat.{ℕ, zero, suc, _+_, _<_, _≤_}
-use mathlib.Core.Path.{_≡_, refl, sym, ap, ap₂, _∙_}
+use Prim.Native.Nat.{ℕ, suc, _+_, _<_, _≤_}
+use mathlib.Core.Path.{_≡_, refl, sym, ap, _∙_}
 use mathlib.Core.Bool.{Bool, true, false, cond, not, _&&_, _||_}
 use mathlib.Core.List.{List, [], _∷_, _++_, map, map-append, append-assoc, append-nil}
 use native.Mathlib.Omega.{arith}
-use borrow.Author.Tests.{eq-eqb, ne-eqb, eqb-true, eqb-false}
+use borrow.Author.Tests.{eq-eqb, ne-eqb}
 use lib.Dec.{eqb}
 use lib.ListN.{length}
 use Rattle.definition.specs.Text.{Text, same, some-of, member, keep, all-of}
-use Rattle.definition.specs.Token.{Token}
 use Rattle.definition.specs.Syntax.{Term, name, string, anything}
 use Rattle.definition.specs.Names.{Role, Use, in-terms, join, attributes, takes-attribute, attribute-names, subset}
 use Rattle.definition.proofs.BoolLaws.{is-true}
 use Rattle.definition.proofs.MeaningLaws.{same-eq, same-refl}
 use Rattle.digits.specs.Lists as Lists
 use Rattle.digits.proofs.Listing.{Once}
-use Rattle.slots.proofs.Texts.{add-text, join-add, join-nil, nil-join, member-append}
+use Rattle.slots.proofs.Texts.{add-text, join-add, join-nil, member-append}
 
 unfoldable pub pos-from : Text → List Text → ℕ → ℕ
 pos-from x [] i = 0

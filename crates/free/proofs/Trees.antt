@@ -1,25 +1,24 @@
 -- The free attributes that stand at the words of a tree are the definition's.
-use Prim.Native.Nat.{ℕ, zero, suc, _+_, _-_, _*_, _/_, _%_, _<_, _≤_}
-use mathlib.Core.Path.{_≡_, refl, sym, ap, ap₂, _∙_}
-use mathlib.Core.Bool.{Bool, true, false, cond, not}
+use Prim.Native.Nat.{ℕ, suc, _+_, _-_, _<_, _≤_}
+use mathlib.Core.Path.{_≡_, refl, sym, ap, _∙_}
+use mathlib.Core.Bool.{Bool, true, false, not}
 use mathlib.Core.List.{List, [], _∷_, _++_, map}
 use native.Mathlib.Omega.{arith}
-use borrow.Author.Tests.{ne-eqb, eq-eqb, lt-ltb, le-ltb, lt-leb, le-leb}
-use lib.Dec.{eqb, ltb, leb}
+use borrow.Author.Tests.{ne-eqb, lt-ltb, le-ltb, lt-leb, le-leb}
 use lib.ListN.{length, getD}
 use Rattle.definition.specs.Text.{Text, same, member, keep}
 use Rattle.definition.specs.Token.{Token}
 use Rattle.definition.specs.Syntax.{Term, name, string, anything, Expression, atom, truth, falsity, compare, negation, conjunction, disjunction, implication, equivalence, exists, for-all, closure-of, compare-relations}
-use Rattle.definition.specs.Names.{Use, term, in-terms, in-expression, join, attributes, free}
-use Rattle.words.specs.Fields.{word, kind-of, p-of, q-of, RELATION-NAME, ATTRIBUTE, TERM, ANYTHING, ATOM, TRUTH, FALSITY, ORDER, NEGATION, CONJUNCTION, DISJUNCTION, IMPLICATION, EQUIVALENCE, EXISTS, FOR-ALL, CLOSURE, COMPARISON, STRING}
+use Rattle.definition.specs.Names.{term, in-expression, join, attributes, free}
+use Rattle.words.specs.Fields.{word, kind-of, RELATION-NAME, ATTRIBUTE, TERM, ANYTHING, ATOM, TRUTH, FALSITY, ORDER, NEGATION, CONJUNCTION, DISJUNCTION, IMPLICATION, EQUIVALENCE, EXISTS, FOR-ALL, CLOSURE, STRING}
 use Rattle.words.specs.Raw.{number, sign-number, leaf, leaves, size, over, flat}
 use Rattle.words.specs.Tokens.{OwnName, OwnTerm, OwnTerms, OwnExpression}
 use Rattle.words.proofs.FieldLaws.{kind-word, p-word, q-word}
 use Rattle.words.specs.Standing.{Has}
-use Rattle.words.proofs.Sizes.{length-leaves, length-flat, size-pos}
-use Rattle.words.proofs.Places.{has-append, Two, has-two, One, has-one}
-use Rattle.digits.specs.Lists.{add, adds, remove, pack}
-use Rattle.digits.specs.Packed.{plus, joined, without}
+use Rattle.words.proofs.Sizes.{length-leaves, size-pos}
+use Rattle.words.proofs.Places.{has-append, Two, has-two, has-one}
+use Rattle.digits.specs.Lists.{add, adds, pack}
+use Rattle.digits.specs.Packed.{joined, without}
 use Rattle.digits.proofs.Listing.{Once, Within, Listed, listed-add, listed-adds, listed-remove}
 use Rattle.digits.proofs.Packing.{plus-law, joined-law, without-law}
 use Rattle.slots.specs.Slots.{takes}
@@ -33,6 +32,15 @@ not-leaf c a b d = rw (ne-eqb c 3 a, ne-eqb c 43 b, ne-eqb c 9 d) refl
 
 pub op-leaf : (c : ℕ) → 10 ≤ c → c < 43 → is-leaf c ≡ false
 op-leaf c l h = not-leaf c (λ e. omega arith) (λ e. omega arith) (λ e. omega arith)
+
+-- no digits
+pub nil-listed : Listed 4 []
+unfolding Once Within
+nil-listed = record { once = tt; within = tt }
+
+pub pack-nil : pack [] ≡ 0
+unfolding pack
+pack-nil = refl
 
 module _ (ts : List Token) (few : length ts < 65536) (words fr : List ℕ) (s N : ℕ) (D : ℕ → ℕ) (filled : Filled words D fr s N) (small : N < 65536)
     (names : List Text) (short : length names ≤ 4) (vs : Text → Bool) (loops : (x : Text) → vs x ≡ true → member x names ≡ false)
@@ -148,17 +156,9 @@ module _ (ts : List Token) (few : length ts < 65536) (words fr : List ℕ) (s N 
     pub inside : AllIn names (free vs e)
     pub ended : before (n + size e) ≡ 0
 
-  pub nil-listed : Listed 4 []
-  unfolding Once Within
-  nil-listed = record { once = tt; within = tt }
-
   nil-in : AllIn names []
   unfolding AllIn
   nil-in = tt
-
-  pub pack-nil : pack [] ≡ 0
-  unfolding pack
-  pack-nil = refl
 
   -- the slots of an atom's terms
   pub atom-slots : (ps : List Term) → TermsIn names vs loops ps → adds [] (map digit-of ps) ≡ slots (attributes vs ps)
@@ -178,9 +178,15 @@ module _ (ts : List Token) (few : length ts < 65536) (words fr : List ℕ) (s N 
       }
 
   pair-out : (e a b : Expression) (n c : ℕ) → free vs e ≡ join (free vs a) (free vs b) → size e ≡ size a + size b + 1 → s ≤ n → n + size e ≤ N → 15 ≤ c → c < 19 →
-      Two words n (over c (n + size a) (n + size a + size b) 0) a b → Bottom a n → Bottom b (n + size a) → Bottom e n
-  pair-out e a b n c ef es l h lc hc o A B =
+      Covered names vs loops (in-expression a ++ in-expression b) → Has words n (flat a n ++ (flat b (n + size a) ++ (over c (n + size a) (n + size a + size b) 0 ∷ []))) →
+      (Covered names vs loops (in-expression a) → n + size a ≤ N → Has words n (flat a n) → Bottom a n) →
+      (Covered names vs loops (in-expression b) → s ≤ n + size a → n + size a + size b ≤ N → before (n + size a) ≡ 0 → Has words (n + size a) (flat b (n + size a)) → Bottom b (n + size a)) → Bottom e n
+  pair-out e a b n c ef es l h lc hc u w first second =
       let k = n + size a + size b in
+      let o = has-two words n (over c (n + size a) k 0) a b w in
+      let v = covered-split names vs loops (in-expression a) (in-expression b) u in
+      let A = first (v .0) (omega arith) (o .left) in
+      let B = second (v .1) (omega arith) (omega arith) (A .ended) (o .right) in
       let i : n + size e - 1 ≡ k = omega arith in
       let j : k + 1 ≡ n + size e = omega arith in
       let m = map-join names (free vs a) (free vs b) (A .inside) (B .inside) (B .listed .once) in
@@ -193,10 +199,13 @@ module _ (ts : List Token) (few : length ts < 65536) (words fr : List ℕ) (s N 
       }
 
   quantifier-out : (e a : Expression) (x : Token) (n c : ℕ) → free vs e ≡ keep (λ y. not (same y (x .text))) (free vs a) → size e ≡ size a + 2 → s ≤ n → n + size e ≤ N → 19 ≤ c → c < 21 → OwnName ts x →
-      getD words n 0 ≡ word ATTRIBUTE (number x) 0 0 → One words (n + 1) (word c n (n + size a) 0) a → Bottom a (n + 1) → Bottom e n
+      getD words n 0 ≡ word ATTRIBUTE (number x) 0 0 → Has words (n + 1) (flat a (n + 1) ++ (word c n (n + size a) 0 ∷ [])) →
+      (s ≤ n + 1 → n + 1 + size a ≤ N → before (n + 1) ≡ 0 → Has words (n + 1) (flat a (n + 1)) → Bottom a (n + 1)) → Bottom e n
   unfolding takes
-  quantifier-out e a x n c ef es l h lc hc ox r o A =
+  quantifier-out e a x n c ef es l h lc hc ox r w inner =
       let k = n + 1 + size a in
+      let o = has-one words (n + 1) (word c n (n + size a) 0) a w in
+      let A = inner (omega arith) (omega arith) (after-other n ATTRIBUTE (number x) 0 0 l (omega arith) (not-leaf ATTRIBUTE (λ e. omega arith) (λ e. omega arith) (λ e. omega arith)) r) (o .inner) in
       let i : n + size e - 1 ≡ k = omega arith in
       let j : k + 1 ≡ n + size e = omega arith in
       let m : n + 1 + size a - 1 ≡ n + size a = omega arith in
@@ -259,38 +268,12 @@ module _ (ts : List Token) (few : length ts < 65536) (words fr : List ℕ) (s N 
       let A = bottom a n o c l (omega arith) cl (t .inner) in
       one-out (negation a) a n NEGATION refl refl l h (omega arith) (omega arith)
       (negation-free (n + size a) NEGATION (n + size a - 1) 0 0 (omega arith) (omega arith) (omega arith) (omega arith) (t .root) refl (omega (arith, size-pos a))) (t .root) A
-  bottom (conjunction a b) n o c l h cl w =
-      let t = has-two words n _ a b w in
-      let u = covered-split names vs loops (in-expression a) (in-expression b) c in
-      let A = bottom a n (o .0) (u .0) l (omega arith) cl (t .left) in
-      let B = bottom b (n + size a) (o .1) (u .1) (omega arith) (omega arith) (A .ended) (t .right) in
-      pair-out (conjunction a b) a b n CONJUNCTION refl refl l h (omega arith) (omega arith) t A B
-  bottom (disjunction a b) n o c l h cl w =
-      let t = has-two words n _ a b w in
-      let u = covered-split names vs loops (in-expression a) (in-expression b) c in
-      let A = bottom a n (o .0) (u .0) l (omega arith) cl (t .left) in
-      let B = bottom b (n + size a) (o .1) (u .1) (omega arith) (omega arith) (A .ended) (t .right) in
-      pair-out (disjunction a b) a b n DISJUNCTION refl refl l h (omega arith) (omega arith) t A B
-  bottom (implication a b) n o c l h cl w =
-      let t = has-two words n _ a b w in
-      let u = covered-split names vs loops (in-expression a) (in-expression b) c in
-      let A = bottom a n (o .0) (u .0) l (omega arith) cl (t .left) in
-      let B = bottom b (n + size a) (o .1) (u .1) (omega arith) (omega arith) (A .ended) (t .right) in
-      pair-out (implication a b) a b n IMPLICATION refl refl l h (omega arith) (omega arith) t A B
-  bottom (equivalence a b) n o c l h cl w =
-      let t = has-two words n _ a b w in
-      let u = covered-split names vs loops (in-expression a) (in-expression b) c in
-      let A = bottom a n (o .0) (u .0) l (omega arith) cl (t .left) in
-      let B = bottom b (n + size a) (o .1) (u .1) (omega arith) (omega arith) (A .ended) (t .right) in
-      pair-out (equivalence a b) a b n EQUIVALENCE refl refl l h (omega arith) (omega arith) t A B
-  bottom (exists x a) n o c l h cl w =
-      let t = has-one words (n + 1) _ a (w .1) in
-      let A = bottom a (n + 1) (o .1) (c .1) (omega arith) (omega arith) (after-other n ATTRIBUTE (number x) 0 0 l (omega arith) (not-leaf ATTRIBUTE (λ e. omega arith) (λ e. omega arith) (λ e. omega arith)) (w .0)) (t .inner) in
-      quantifier-out (exists x a) a x n EXISTS refl refl l h (omega arith) (omega arith) (o .0) (w .0) t A
-  bottom (for-all x a) n o c l h cl w =
-      let t = has-one words (n + 1) _ a (w .1) in
-      let A = bottom a (n + 1) (o .1) (c .1) (omega arith) (omega arith) (after-other n ATTRIBUTE (number x) 0 0 l (omega arith) (not-leaf ATTRIBUTE (λ e. omega arith) (λ e. omega arith) (λ e. omega arith)) (w .0)) (t .inner) in
-      quantifier-out (for-all x a) a x n FOR-ALL refl refl l h (omega arith) (omega arith) (o .0) (w .0) t A
+  bottom (conjunction a b) n o c l h cl w = pair-out (conjunction a b) a b n CONJUNCTION refl refl l h (omega arith) (omega arith) c w (λ u i v. bottom a n (o .0) u l i cl v) (bottom b (n + size a) (o .1))
+  bottom (disjunction a b) n o c l h cl w = pair-out (disjunction a b) a b n DISJUNCTION refl refl l h (omega arith) (omega arith) c w (λ u i v. bottom a n (o .0) u l i cl v) (bottom b (n + size a) (o .1))
+  bottom (implication a b) n o c l h cl w = pair-out (implication a b) a b n IMPLICATION refl refl l h (omega arith) (omega arith) c w (λ u i v. bottom a n (o .0) u l i cl v) (bottom b (n + size a) (o .1))
+  bottom (equivalence a b) n o c l h cl w = pair-out (equivalence a b) a b n EQUIVALENCE refl refl l h (omega arith) (omega arith) c w (λ u i v. bottom a n (o .0) u l i cl v) (bottom b (n + size a) (o .1))
+  bottom (exists x a) n o c l h cl w = quantifier-out (exists x a) a x n EXISTS refl refl l h (omega arith) (omega arith) (o .0) (w .0) (w .1) (bottom a (n + 1) (o .1) (c .1))
+  bottom (for-all x a) n o c l h cl w = quantifier-out (for-all x a) a x n FOR-ALL refl refl l h (omega arith) (omega arith) (o .0) (w .0) (w .1) (bottom a (n + 1) (o .1) (c .1))
   bottom (closure-of a) n o c l h cl w =
       let t = has-one words n _ a w in
       let A = bottom a n o c l (omega arith) cl (t .inner) in

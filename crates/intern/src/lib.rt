@@ -1,13 +1,13 @@
 // Names as numbers: bytes are compared here, once; the passes over names compare numbers.
 ghost use mathlib.Core.Path.{_≡_};
-ghost use Prim.Native.Nat.{_+_, _-_, _≤_, _<_};
+ghost use Prim.Native.Nat.{_+_, _-_, _/_, _≤_, _<_};
 ghost use lib.ListN.{length, getD};
 ghost use Rattle.intern.specs.Entries.{start-of, text-at};
 ghost use Rattle.intern.specs.Numbers.{name-of, number-of, may-be-first, Numbered};
 
 // Where the text of a word starts: that of a string after its opening quote.
-fn start(w: u64) -> usize
-    ensures { λ r. ⌜ r ≡ start-of w ⌝ }
+pub fn start(w: u64) -> usize
+    ensures { λ r. ⌜ (r ≡ start-of w) × (r ≤ w / 4096 + 1) ⌝ }
 {
     let at = (w / 4096) as usize;
     if w % 64 == 48 {

@@ -1,31 +1,31 @@
 -- The walk by numbers is the definition's pass over the uses of names.
 use Prim.Native.Nat.{ℕ, zero, suc, _+_, _*_, _/_, _%_, _-_, _<_, _≤_}
 use mathlib.Core.Path.{_≡_, refl, sym, ap, ap₂, _∙_}
-use mathlib.Core.Bool.{Bool, true, false, cond, not}
+use mathlib.Core.Bool.{Bool, true, false, cond}
 use mathlib.Core.List.{List, [], _∷_, _++_, map, map-append}
 use native.Mathlib.Omega.{arith}
 use native.Mathlib.Numerals.{add-one}
-use borrow.Author.Tests.{lt-ltb, le-ltb, eq-eqb, ne-eqb, eqb-true, eqb-false, ltb-true, ltb-false, leb-true, leb-false}
+use borrow.Author.Tests.{lt-ltb, le-ltb, ne-eqb, eqb-true, eqb-false, ltb-true, ltb-false, leb-true, leb-false}
 use lib.Dec.{eqb, ltb, leb}
-use lib.ListN.{length, getD, set, take, drop, length-set, length-map}
+use lib.ListN.{length, getD, set, take, length-set, length-map}
 use lib.Seq.{getD-set-same, getD-set-other, take-suc-set, length-take-le}
 use Rattle.definition.specs.Text.{Text, same}
 use Rattle.definition.specs.Limits.{document-01}
-use Rattle.definition.specs.Token.{Token, token-at}
+use Rattle.definition.specs.Token.{Token}
 use Rattle.definition.specs.Answer.{Answer, ok, refused, _>>=_, _>>_, refuse-if}
 use Rattle.definition.specs.Facts.{Relation, add-relation}
-use Rattle.definition.specs.Names.{Role, before-terms, attribute-only, term, variable-only, after-for, enter, leave, Use, use-as, Known, nothing, attribute, variable, open-variable, relation, becomes, first, row, rule, Kinds, learn, follow, use-name, use-names}
+use Rattle.definition.specs.Names.{before-terms, attribute-only, term, variable-only, after-for, enter, leave, Use, use-as, Known, relation, becomes, first, row, rule, Kinds, learn, follow, use-name, use-names}
 use Rattle.definition.specs.Names as Names
-use Rattle.words.specs.Fields.{kind-of, p-of, q-of, RELATION-NAME, ATTRIBUTE, TERM, WORD, BIND, RANGE, NEXT}
+use Rattle.words.specs.Fields.{kind-of, RELATION-NAME, ATTRIBUTE, TERM, WORD, BIND, RANGE, NEXT}
 use Rattle.words.specs.Raw.{number}
 use Rattle.words.specs.Tokens.{OwnName}
 use Rattle.words.specs.Shown.{role-of, Shows, none, other, named}
 use Rattle.parts.specs.Packed.{text-of}
 use Rattle.facts.specs.Words.{relation-of}
-use Rattle.intern.specs.Entries.{QUOTED, start-of, text-at, Stand}
+use Rattle.intern.specs.Entries.{QUOTED, text-at, Stand}
 use Rattle.kinds.specs.declared.Rule.{Rule}
 use Rattle.kinds.specs.declared.Rule.the-variants.{Keep, Fresh, Kind, Arity}
-use Rattle.kinds.specs.Walk.{known-of, relation-code, relation-rule, attribute-rule, variable-rule, term-rule, bind-rule, enter-rule, leave-rule, rule-of, relation-word, State, state, Walked, went, stopped, apply, use-at, step, walk, after}
+use Rattle.kinds.specs.Walk.{known-of, relation-code, relation-rule, attribute-rule, turn-rule, term-rule, bind-rule, rule-of, relation-word, State, state, Walked, went, stopped, apply, use-at, step, walk, after}
 use Rattle.kinds.proofs.Steps.{fresh-small}
 
 -- what a rule on numbers says
@@ -86,7 +86,7 @@ as-term c2 = refl
 as-term c3 = refl
 as-term {k} (c4 h) = rw (known-relation k h, le-ltb k 2 (omega arith), ne-eqb k 3 (λ e. omega arith)) refl
 
-as-variable : {k : ℕ} → Code k → means (variable-rule k) ≡ rule variable-only (known-of k)
+as-variable : {k : ℕ} → Code k → means (turn-rule k 3 3) ≡ rule variable-only (known-of k)
 unfolding rule known-of means
 as-variable c0 = refl
 as-variable c1 = refl
@@ -102,7 +102,7 @@ as-bind c2 = refl
 as-bind c3 = refl
 as-bind {k} (c4 h) = rw (known-relation k h, ne-eqb k 0 (λ e. omega arith), ne-eqb k 2 (λ e. omega arith)) refl
 
-as-enter : {k : ℕ} → Code k → means (enter-rule k) ≡ rule enter (known-of k)
+as-enter : {k : ℕ} → Code k → means (turn-rule k 2 3) ≡ rule enter (known-of k)
 unfolding rule known-of means
 as-enter c0 = refl
 as-enter c1 = refl
@@ -110,7 +110,7 @@ as-enter c2 = refl
 as-enter c3 = refl
 as-enter {k} (c4 h) = rw (known-relation k h, ne-eqb k 2 (λ e. omega arith)) refl
 
-as-leave : {k : ℕ} → Code k → means (leave-rule k) ≡ rule leave (known-of k)
+as-leave : {k : ℕ} → Code k → means (turn-rule k 3 2) ≡ rule leave (known-of k)
 unfolding rule known-of means
 as-leave c0 = refl
 as-leave c1 = refl
@@ -123,7 +123,7 @@ unfolding rule-of role-of means known-of
 lawful k r n = go (eqb r RELATION-NAME) (eqb r ATTRIBUTE) (eqb r TERM) (eqb r WORD) (eqb r BIND) (eqb r RANGE)
   where
     go : (b1 b2 b3 b4 b5 b6 : Bool) →
-        means (cond b1 (relation-rule k n) (cond b2 (attribute-rule k) (cond b3 (term-rule k) (cond b4 (variable-rule k) (cond b5 (bind-rule k) (cond b6 (enter-rule k) (leave-rule k)))))))
+        means (cond b1 (relation-rule k n) (cond b2 (attribute-rule k) (cond b3 (term-rule k) (cond b4 (turn-rule k 3 3) (cond b5 (bind-rule k) (cond b6 (turn-rule k 2 3) (turn-rule k 3 2)))))))
         ≡ rule (cond b1 (before-terms n) (cond b2 attribute-only (cond b3 term (cond b4 variable-only (cond b5 after-for (cond b6 enter leave)))))) (known-of k)
     go true b2 b3 b4 b5 b6 = as-relation n (code k)
     go false true b3 b4 b5 b6 = as-attribute (code k)

@@ -1,22 +1,21 @@
 -- One use of a name, one turn of the walk, from what their parts gave.
-use Prim.Native.Nat.{ℕ, _+_, _*_, _/_, _%_, _<_, _≤_}
-use mathlib.Core.Path.{_≡_, refl, sym, ap, _∙_}
+use Prim.Native.Nat.{ℕ, _+_, _/_, _%_, _<_, _≤_}
+use mathlib.Core.Path.{_≡_, refl, sym, _∙_}
 use mathlib.Core.Bool.{Bool, true, false, cond}
-use mathlib.Core.List.{List, [], _∷_}
+use mathlib.Core.List.{List}
 use native.Mathlib.Omega.{arith}
 use native.Mathlib.Numerals.{add-one}
 use borrow.Author.Tests.{lt-ltb, le-ltb, ltb-false}
 use lib.Dec.{eqb, ltb}
 use lib.ListN.{length, getD, set, drop, drop-of-length-le}
 use lib.Seq.{drop-cons}
-use Rattle.definition.specs.Answer.{number, place}
 use Rattle.definition.specs.declared.Refusal.{Refusal}
 use Rattle.words.specs.Fields.{RELATION-NAME, ATTRIBUTE, TERM, WORD, BIND, RANGE}
 use Rattle.kinds.specs.declared.Rule.{Rule}
 use Rattle.kinds.specs.declared.Rule.the-variants.{Keep, Fresh, Kind, Arity}
 use Rattle.kinds.specs.declared.Named.{Named}
 use Rattle.kinds.specs.declared.Named.the-variants.{Done, Refused}
-use Rattle.kinds.specs.Walk.{relation-rule, attribute-rule, variable-rule, term-rule, bind-rule, rule-of, relation-code, relation-word, State, state, Walked, went, stopped, apply, use-at, step, walk, after, meets}
+use Rattle.kinds.specs.Walk.{rule-of, relation-code, relation-word, State, state, Walked, went, stopped, apply, use-at, step, walk, after, meets}
 
 -- a new relation has at most 3 terms
 Small : Rule → Type 0

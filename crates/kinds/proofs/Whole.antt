@@ -1,13 +1,13 @@
 -- Numbers for names, what the facts say of them, then the walk: together the definition's pass over the names.
-use Prim.Native.Nat.{ℕ, zero, suc, _+_, _*_, _/_, _%_, _-_, _<_, _≤_}
+use Prim.Native.Nat.{ℕ, zero, suc, _+_, _/_, _%_, _-_, _<_, _≤_}
 use mathlib.Core.Path.{_≡_, refl, sym, ap, ap₂, _∙_}
 use mathlib.Core.Bool.{Bool, true, false, cond}
-use mathlib.Core.List.{List, [], _∷_, map}
+use mathlib.Core.List.{List, map}
 use native.Mathlib.Omega.{arith}
 use native.Mathlib.Nat.{add-sub-cancel-left}
 use native.Mathlib.Numerals.{add-one}
-use borrow.Author.Tests.{lt-ltb, le-ltb, eq-eqb}
-use lib.Dec.{eqb, ltb}
+use borrow.Author.Tests.{lt-ltb, le-ltb}
+use lib.Dec.{eqb}
 use lib.ListN.{length, getD, take, drop, drop-of-length-le}
 use lib.Seq.{length-take-le, drop-cons}
 use Rattle.definition.specs.Text.{Text, same}
@@ -15,9 +15,7 @@ use Rattle.definition.specs.Limits.{document-01}
 use Rattle.definition.specs.Token.{Token}
 use Rattle.definition.specs.Syntax.{Program}
 use Rattle.definition.specs.Answer.{Answer, ok, refused, number, place}
-use Rattle.definition.specs.Facts.{Relation}
-use Rattle.definition.specs.Names.{Known, nothing, relation, Kinds, in-program, use-names, numbered, fact-kinds}
-use Rattle.definition.specs.declared.Refusal.{Refusal}
+use Rattle.definition.specs.Names.{nothing, relation, Kinds, in-program, use-names, numbered, fact-kinds}
 use Rattle.words.specs.Shown.{Shows}
 use Rattle.words.proofs.NameOrder.{program-uses}
 use Rattle.facts.specs.Words.{relation-of}

@@ -6,7 +6,6 @@ use mathlib.Core.List.{List, [], _∷_}
 use lib.Dec.{eqb, ltb}
 use lib.ListN.{getD, set}
 use Rattle.definition.specs.Names.{Known, nothing, attribute, variable, open-variable, relation}
-use Rattle.definition.specs.Names as Names
 use Rattle.definition.specs.Answer.{number, place}
 use Rattle.words.specs.Fields.{kind-of, p-of, q-of, RELATION-NAME, ATTRIBUTE, TERM, WORD, BIND, RANGE, NEXT}
 use Rattle.kinds.specs.declared.Rule.{Rule}
@@ -30,8 +29,9 @@ relation-rule k n =
 abbrev pub attribute-rule : ℕ → Rule
 attribute-rule k = cond (ltb k 2) (Keep 1) Kind
 
-abbrev pub variable-rule : ℕ → Rule
-variable-rule k = cond (eqb k 3) (Keep 3) Kind
+-- a loop variable of which one number must be known, and another is then
+abbrev pub turn-rule : ℕ → ℕ → ℕ → Rule
+turn-rule k from to = cond (eqb k from) (Keep to) Kind
 
 abbrev pub term-rule : ℕ → Rule
 term-rule k = cond (eqb k 3) (Keep 3) (attribute-rule k)
@@ -39,18 +39,12 @@ term-rule k = cond (eqb k 3) (Keep 3) (attribute-rule k)
 abbrev pub bind-rule : ℕ → Rule
 bind-rule k = cond (eqb k 0) (Keep 2) (cond (eqb k 2) (Keep 2) Kind)
 
-abbrev pub enter-rule : ℕ → Rule
-enter-rule k = cond (eqb k 2) (Keep 3) Kind
-
-abbrev pub leave-rule : ℕ → Rule
-leave-rule k = cond (eqb k 3) (Keep 2) Kind
-
 unfoldable pub rule-of : ℕ → ℕ → ℕ → Rule
 rule-of k role n =
     cond (eqb role RELATION-NAME) (relation-rule k n)
     (cond (eqb role ATTRIBUTE) (attribute-rule k)
     (cond (eqb role TERM) (term-rule k)
-    (cond (eqb role WORD) (variable-rule k) (cond (eqb role BIND) (bind-rule k) (cond (eqb role RANGE) (enter-rule k) (leave-rule k))))))
+    (cond (eqb role WORD) (turn-rule k 3 3) (cond (eqb role BIND) (bind-rule k) (cond (eqb role RANGE) (turn-rule k 2 3) (turn-rule k 3 2))))))
 
 -- what is known of the names by number, the relations' words, and how many these are
 pub record State : Type 0 where

@@ -10,7 +10,7 @@ ghost use Rattle.definition.specs.Syntax.{Program};
 ghost use Rattle.definition.specs.Names.{in-program, use-names, fact-kinds};
 ghost use Rattle.facts.specs.Words.{relation-of};
 ghost use Rattle.kinds.specs.Resolved.{Parsed, Resolved, fact-code, FactsKnown};
-ghost use Rattle.kinds.specs.Walk.{relation-rule, attribute-rule, variable-rule, bind-rule, enter-rule, leave-rule, rule-of, state, use-at, step, walk, meets};
+ghost use Rattle.kinds.specs.Walk.{relation-rule, attribute-rule, turn-rule, bind-rule, rule-of, state, use-at, step, walk, meets};
 use definition::Refusal;
 use words::put_at;
 use words::word_at;
@@ -66,12 +66,12 @@ fn attribute_rule(k: u64) -> Rule
     Rule::Kind
 }
 
-// An item or a label: "s a string or loop variable".
-fn variable_rule(k: u64) -> Rule
-    ensures { λ r. ⌜ r ≡ variable-rule k ⌝ }
+// A loop variable of which `from` must be known, and `to` is then.
+fn turn_rule(k: u64, from: u64, to: u64) -> Rule
+    ensures { λ r. ⌜ r ≡ turn-rule k from to ⌝ }
 {
-    if k == 3 {
-        return Rule::Keep(3);
+    if k == from {
+        return Rule::Keep(to);
     }
     Rule::Kind
 }
@@ -84,25 +84,6 @@ fn bind_rule(k: u64) -> Rule
         return Rule::Keep(2);
     }
     if k == 2 {
-        return Rule::Keep(2);
-    }
-    Rule::Kind
-}
-
-// The loop's block begins, and ends.
-fn enter_rule(k: u64) -> Rule
-    ensures { λ r. ⌜ r ≡ enter-rule k ⌝ }
-{
-    if k == 2 {
-        return Rule::Keep(3);
-    }
-    Rule::Kind
-}
-
-fn leave_rule(k: u64) -> Rule
-    ensures { λ r. ⌜ r ≡ leave-rule k ⌝ }
-{
-    if k == 3 {
         return Rule::Keep(2);
     }
     Rule::Kind
@@ -124,16 +105,18 @@ fn judge(k: u64, role: u64, n: u64) -> Rule
         }
         return attribute_rule(k);
     }
+    // An item or a label: "s a string or loop variable".
     if role == 4 {
-        return variable_rule(k);
+        return turn_rule(k, 3, 3);
     }
     if role == 5 {
         return bind_rule(k);
     }
+    // The loop's block begins, and ends.
     if role == 6 {
-        return enter_rule(k);
+        return turn_rule(k, 2, 3);
     }
-    leave_rule(k)
+    turn_rule(k, 3, 2)
 }
 
 // One use of a name, at token t.

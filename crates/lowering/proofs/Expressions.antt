@@ -2,13 +2,13 @@
 use Prim.Native.Nat.{ℕ, zero, suc, _+_, _*_, _-_, _/_, _%_, _<_, _≤_}
 use mathlib.Core.Path.{_≡_, refl, sym, ap, ap₂, _∙_, subst}
 use mathlib.Core.Bool.{Bool, true, false, _||_}
-use mathlib.Core.List.{List, [], _∷_, _++_, map}
+use mathlib.Core.List.{List, [], _∷_, map}
 use mathlib.Core.Logic.{⊎-elim}
 use native.Mathlib.Omega.{arith}
 use borrow.Author.Tests.{ne-eqb, le-leb}
-use lib.Dec.{T, eqb}
-use lib.ListN.{length, getD, length-append}
-use Rattle.definition.specs.Text.{Text, same, member, some-of}
+use lib.Dec.{T}
+use lib.ListN.{length, getD}
+use Rattle.definition.specs.Text.{Text, same, member}
 use Rattle.definition.specs.Token.{Token, Sign, equal, unequal, less, at-most, greater, at-least}
 use Rattle.definition.specs.Syntax.{Term, Expression, atom, truth, falsity, compare, negation, conjunction, disjunction, implication, equivalence, exists, for-all, closure-of, compare-relations}
 use Rattle.definition.specs.Names.{free, join, closures}
@@ -18,17 +18,17 @@ use Rattle.definition.proofs.RelationLaws.{place-of}
 use Rattle.words.specs.Fields.{word, kind-of, p-of, RELATION-NAME, ATTRIBUTE, TERM, ATOM, TRUTH, FALSITY, ORDER, NEGATION, CONJUNCTION, DISJUNCTION, IMPLICATION, EQUIVALENCE, EXISTS, FOR-ALL, CLOSURE, COMPARISON}
 use Rattle.words.specs.Raw.{number, sign-number, leaf, leaves, size, over, flat}
 use Rattle.words.specs.Tokens.{OwnName}
-use Rattle.words.proofs.FieldLaws.{kind-word, p-word}
+use Rattle.words.proofs.FieldLaws.{kind-word, p-word, byte-a, byte-b}
 use Rattle.words.proofs.Sizes.{length-leaves, size-pos}
 use Rattle.digits.specs.Lists.{pack}
 use Rattle.digits.proofs.Listing.{Within, Listed}
-use Rattle.eval.specs.Nodes.{operand, slot, operands, operands-of, a-of, b-of}
+use Rattle.eval.specs.Nodes.{operand, slot}
 use Rattle.eval.specs.Nodes as Nodes
 use Rattle.slots.specs.Slots.{one-closure}
 use Rattle.free.specs.Words.{is-leaf}
 use Rattle.words.specs.Standing.{Has}
 use Rattle.words.proofs.Places.{has-append, Two, has-two, One, has-one}
-use Rattle.meaning.specs.Lowered.{root, closure-count, Stands, Lowered}
+use Rattle.meaning.specs.Lowered.{root, closure-count, Lowered}
 use Rattle.meaning.specs.Lowered as Lowered
 use Rattle.lowering.specs.Lowering.{at, slot-of, term-byte, operands-at, closures-before, lower-at, Filled}
 use Rattle.lowering.specs.Agreement.{Known, Scoped, ScopedTerm, ScopedTerms, FreeAt, Agrees}
@@ -122,15 +122,6 @@ module _ (w : Accepted) (ts : List Token) (loops : List Text) (In : Text → Boo
             (terms-stand w ts loops In β Clear words codes fr lo hi G ps (n + 1) _ (K .short) o y);
       }
 
-  first-byte : (a b c d : ℕ) → a < 256 → (a + b * 256 + c * 65536 + d * 16777216) % 256 ≡ a
-  first-byte a b c d h = omega arith
-
-  second-byte : (a b c d : ℕ) → a < 256 → b < 256 → (a + b * 256 + c * 65536 + d * 16777216) / 256 % 256 ≡ b
-  second-byte a b c d h k =
-      let e : (a + b * 256 + c * 65536 + d * 16777216) / 256 ≡ b + (c + d * 256) * 256 = omega arith in
-      let f : (b + (c + d * 256) * 256) % 256 ≡ b = omega arith in
-      rw e f
-
   order-word : (g : Sign) (p q : Term) (n : ℕ) → lo ≤ n → n + 2 < hi → ScopedTerm w ts loops In p → ScopedTerm w ts loops In q → getD words n 0 ≡ leaf TERM p → getD words (n + 1) 0 ≡ leaf TERM q
       → getD words (n + 2) 0 ≡ word ORDER n (sign-number g) 0 → Lowered.Order w β loops low (n + 2) g p q
   unfolding operands-at
@@ -141,9 +132,9 @@ module _ (w : Accepted) (ts : List Token) (loops : List Text) (In : Text → Boo
       record {
         kind = kind-at words codes tokens fr (elements w) lo hi old low filled (n + 2) ORDER n (sign-number g) 0 (omega arith) s t (omega arith) h e (λ z. omega arith);
         sign = order-p words codes tokens fr (elements w) lo hi old low filled (n + 2) ORDER n (sign-number g) 0 (omega arith) s t (omega arith) h e refl;
-        left = rw (order-a words codes tokens fr (elements w) lo hi old low filled (n + 2) ORDER n (sign-number g) 0 (omega arith) s t (omega arith) h e refl, first-byte (term-byte (at codes) (getD words n 0)) (term-byte (at codes) (getD words (n + 1) 0)) (term-byte (at codes) (getD words (n + 2) 0)) (term-byte (at codes) (getD words (n + 3) 0)) (small (getD words n 0)))
+        left = rw (order-a words codes tokens fr (elements w) lo hi old low filled (n + 2) ORDER n (sign-number g) 0 (omega arith) s t (omega arith) h e refl, byte-a (term-byte (at codes) (getD words n 0)) (term-byte (at codes) (getD words (n + 1) 0)) (term-byte (at codes) (getD words (n + 2) 0)) (term-byte (at codes) (getD words (n + 3) 0)) (small (getD words n 0)))
             (leaf-stands w ts loops In β Clear words codes fr lo hi G n p op x);
-        right = rw (order-b words codes tokens fr (elements w) lo hi old low filled (n + 2) ORDER n (sign-number g) 0 (omega arith) s t (omega arith) h e refl, second-byte (term-byte (at codes) (getD words n 0)) (term-byte (at codes) (getD words (n + 1) 0)) (term-byte (at codes) (getD words (n + 2) 0)) (term-byte (at codes) (getD words (n + 3) 0)) (small (getD words n 0)) (small (getD words (n + 1) 0)))
+        right = rw (order-b words codes tokens fr (elements w) lo hi old low filled (n + 2) ORDER n (sign-number g) 0 (omega arith) s t (omega arith) h e refl, byte-b (term-byte (at codes) (getD words n 0)) (term-byte (at codes) (getD words (n + 1) 0)) (term-byte (at codes) (getD words (n + 2) 0)) (term-byte (at codes) (getD words (n + 3) 0)) (small (getD words n 0)) (small (getD words (n + 1) 0)))
             (leaf-stands w ts loops In β Clear words codes fr lo hi G (n + 1) q oq y);
       }
 

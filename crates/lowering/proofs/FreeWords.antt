@@ -1,16 +1,16 @@
 -- Free attributes as the crate `free` fills them agree with the definition, as lowering asks.
 use Prim.Native.Nat.{ℕ, _+_, _-_, _<_, _≤_}
 use mathlib.Core.Path.{_≡_, refl, sym, ap, ap₂, _∙_, subst}
-use mathlib.Core.Bool.{Bool, true, false, _||_}
+use mathlib.Core.Bool.{Bool, true, false}
 use mathlib.Core.List.{List, [], _∷_, _++_, map}
 use mathlib.Core.Logic.{⊎-elim}
 use native.Mathlib.Omega.{arith}
 use lib.Dec.{T}
-use lib.ListN.{length, getD}
+use lib.ListN.{length}
 use Rattle.definition.specs.Text.{Text, same, member, some-of}
 use Rattle.definition.specs.Token.{Token}
 use Rattle.definition.specs.Syntax.{Term, name, string, anything, Expression, atom, truth, falsity, compare, negation, conjunction, disjunction, implication, equivalence, exists, for-all, closure-of, compare-relations}
-use Rattle.definition.specs.Names.{Use, term, in-terms, in-expression, takes-attribute, free}
+use Rattle.definition.specs.Names.{Use, term, in-terms, in-expression, free}
 use Rattle.definition.specs.Accept.{Accepted}
 use Rattle.definition.proofs.BoolLaws.{or-cases}
 use Rattle.definition.proofs.MeaningLaws.{same-eq}

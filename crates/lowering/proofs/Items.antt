@@ -1,34 +1,24 @@
 -- The lowered words of a PRINT's items are what printing asks for.
-use Prim.Native.Nat.{ℕ, zero, suc, _+_, _*_, _-_, _/_, _%_, _<_, _≤_}
-use mathlib.Core.Path.{_≡_, refl, sym, ap, ap₂, _∙_, subst}
-use mathlib.Core.Bool.{Bool, true, false, _||_, cond}
+use Prim.Native.Nat.{ℕ, _+_, _*_, _-_, _/_, _%_, _<_, _≤_}
+use mathlib.Core.Path.{_≡_, refl, ap, ap₂, _∙_, subst}
+use mathlib.Core.Bool.{Bool, true, false, cond}
 use mathlib.Core.List.{List, [], _∷_, _++_, map}
 use native.Mathlib.Omega.{arith}
 use borrow.Author.Tests.{ne-eqb, eqb-true, eqb-false}
-use lib.Dec.{T, eqb}
-use lib.ListN.{length, getD, take, drop, length-append}
-use Rattle.definition.specs.Text.{Text, member}
-use Rattle.definition.specs.Token.{Token}
-use Rattle.definition.specs.Syntax.{Term, name, string, anything, Expression, atom, truth, falsity, compare, negation, conjunction, disjunction, implication, equivalence, exists, for-all, closure-of, compare-relations, Item, rows, line-end}
-use Rattle.definition.specs.Syntax as Syntax
-use Rattle.definition.specs.Names.{free, closures}
-use Rattle.definition.specs.Accept.{Accepted, elements}
-use Rattle.words.specs.Fields.{word, kind-of, p-of, q-of, RELATION-NAME, ATTRIBUTE, TERM, WORD, ANYTHING, ATOM, TRUTH, FALSITY, ORDER, NEGATION, CONJUNCTION, DISJUNCTION, IMPLICATION, EQUIVALENCE, EXISTS, FOR-ALL, CLOSURE, COMPARISON, ROWS, SAY, LINE-END, STRING}
-use Rattle.words.specs.Raw.{number, sign-number, leaf, leaves, size, flat}
-use Rattle.words.specs.Tokens.{OwnName, OwnString}
-use Rattle.words.proofs.FieldLaws.{kind-word}
-use Rattle.words.proofs.Sizes.{length-leaves, length-flat}
-use Rattle.intern.specs.Entries.{start-of, text-at}
+use lib.Dec.{eqb}
+use lib.ListN.{length, getD}
+use Rattle.definition.specs.Text.{Text}
+use Rattle.definition.specs.Syntax.{Term, name, string, anything, Expression, atom, truth, falsity, compare, negation, conjunction, disjunction, implication, equivalence, exists, for-all, closure-of, compare-relations}
+use Rattle.words.specs.Fields.{word, kind-of, p-of, q-of, RELATION-NAME, ATTRIBUTE, TERM, ANYTHING, ATOM, TRUTH, FALSITY, ORDER, NEGATION, CONJUNCTION, DISJUNCTION, IMPLICATION, EQUIVALENCE, EXISTS, FOR-ALL, CLOSURE, COMPARISON, ROWS, SAY, LINE-END, STRING}
+use Rattle.words.specs.Raw.{number, sign-number, leaves, size, flat}
+use Rattle.words.proofs.FieldLaws.{kind-word, byte-a, byte-b, byte-c, byte-d}
 use Rattle.digits.specs.Lists.{pack}
-use Rattle.digits.specs.Packed.{count}
-use Rattle.digits.proofs.Listing.{Once, Within, Listed, few}
-use Rattle.digits.proofs.Packing.{count-law}
-use Rattle.eval.specs.Nodes.{operand, slot, a-of, b-of, c-of, d-of, n-of}
+use Rattle.digits.proofs.Listing.{Within, Listed, few}
+use Rattle.eval.specs.Nodes.{a-of, b-of, c-of, d-of, n-of}
 use Rattle.words.specs.Standing.{Has}
-use Rattle.words.proofs.Places.{has-append}
 use Rattle.prints.specs.Items.{columns-of}
-use Rattle.prints.specs.Lowered.{is-item, Passed}
-use Rattle.lowering.specs.Lowering.{at, slot-of, slots-of, all-stand, kind-field, lower-at, Filled}
+use Rattle.prints.specs.Lowered.{is-item}
+use Rattle.lowering.specs.Lowering.{at, four-bytes, slot-of, slots-of, all-stand, kind-field, lower-at, Filled}
 use Rattle.lowering.proofs.Places.{kind-field-at}
 
 -- the columns of up to four attributes
@@ -45,27 +35,9 @@ module _ (a b c d f : ℕ) (ha : a < 8) (hb : b < 8) (hc : c < 8) (hd : d < 8) (
   digit-d : f / 512 % 8 ≡ d
   digit-d = let q : f / 512 ≡ d = omega arith in let r : d % 8 ≡ d = omega arith in rw q r
 
-  slots-four : slots-of f ≡ slot-of a + slot-of b * 256 + slot-of c * 65536 + slot-of d * 16777216
+  slots-four : slots-of f ≡ four-bytes (slot-of a) (slot-of b) (slot-of c) (slot-of d)
   unfolding slots-of
   slots-four = rw (digit-a, digit-b, digit-c, digit-d) refl
-
-byte-a : (a b c d : ℕ) → a < 256 → (a + b * 256 + c * 65536 + d * 16777216) % 256 ≡ a
-byte-a a b c d h = omega arith
-
-byte-b : (a b c d : ℕ) → a < 256 → b < 256 → (a + b * 256 + c * 65536 + d * 16777216) / 256 % 256 ≡ b
-byte-b a b c d h k =
-    let q : (a + b * 256 + c * 65536 + d * 16777216) / 256 ≡ b + (c + d * 256) * 256 = omega arith in
-    let r : (b + (c + d * 256) * 256) % 256 ≡ b = omega arith in
-    rw q r
-
-byte-c : (a b c d : ℕ) → a < 256 → b < 256 → c < 256 → (a + b * 256 + c * 65536 + d * 16777216) / 65536 % 256 ≡ c
-byte-c a b c d h k l =
-    let q : (a + b * 256 + c * 65536 + d * 16777216) / 65536 ≡ c + d * 256 = omega arith in
-    let r : (c + d * 256) % 256 ≡ c = omega arith in
-    rw q r
-
-byte-d : (a b c d : ℕ) → a < 256 → b < 256 → c < 256 → (a + b * 256 + c * 65536 + d * 16777216) / 16777216 ≡ d
-byte-d a b c d h k l = omega arith
 
 column : (b : ℕ) → 0 < b - 63 → b - 63 ≤ 4 → 64 + (b - 63 - 1) % 8 ≡ b
 column b h k = omega arith

@@ -1,20 +1,19 @@
 -- The columns of a lowered assignment stand for its left-hand terms.
-use Prim.Native.Nat.{ℕ, zero, suc, _+_, _-_, _%_, _<_, _≤_}
-use mathlib.Core.Path.{_≡_, refl, sym, ap, _∙_, subst}
-use mathlib.Core.Bool.{Bool, true}
+use Prim.Native.Nat.{ℕ, _+_, _-_, _%_, _<_}
+use mathlib.Core.Path.{_≡_, sym, subst}
+use mathlib.Core.Bool.{Bool}
 use mathlib.Core.List.{List, [], _∷_}
 use native.Mathlib.Omega.{arith}
 use lib.ListN.{length, getD, take}
 use Rattle.definition.specs.Text.{Text}
 use Rattle.definition.specs.Token.{Token}
 use Rattle.definition.specs.Syntax.{Term, name, string, anything}
-use Rattle.definition.specs.Accept.{Accepted, elements}
+use Rattle.definition.specs.Accept.{Accepted}
 use Rattle.words.specs.Fields.{word, ATTRIBUTE, STRING}
 use Rattle.words.specs.Raw.{number, leaf, leaves}
 use Rattle.words.specs.Tokens.{OwnString}
 use Rattle.words.proofs.FieldLaws.{kind-word, p-word}
 use Rattle.words.specs.Standing.{Has}
-use Rattle.columns.specs.Columns.{slot-of}
 use Rattle.columns.proofs.Assigned.{Coded, by-name, by-string, AllCoded}
 use Rattle.columns.proofs.Assigned as Assigned
 use Rattle.lowering.specs.Lowering.{at, term-byte}

@@ -9,7 +9,6 @@ use lib.Dec.{T, eqb}
 use Rattle.definition.specs.Text.{Text, same, some-of, member, keep}
 use Rattle.definition.specs.Tables.{bit}
 use Rattle.definition.specs.Names.{join}
-use Rattle.definition.proofs.BoolLaws.{is-true}
 use Rattle.definition.proofs.MeaningLaws.{same-eq}
 use Rattle.digits.specs.Lists as Lists
 use Rattle.digits.specs.Lists.{pack}

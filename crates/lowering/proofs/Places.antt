@@ -1,8 +1,8 @@
 -- The fields of the lowered word at a place whose raw word is known.
 use Prim.Native.Nat.{ℕ, zero, suc, _+_, _*_, _-_, _/_, _%_, _<_, _≤_}
-use mathlib.Core.Path.{_≡_, refl, sym, ap, _∙_}
+use mathlib.Core.Path.{_≡_, refl, _∙_}
 use mathlib.Core.Bool.{Bool, true, false, cond}
-use mathlib.Core.List.{List, [], _∷_, _++_}
+use mathlib.Core.List.{List, [], _∷_}
 use native.Mathlib.Omega.{arith}
 use borrow.Author.Tests.{lt-ltb, le-ltb, eq-eqb, ne-eqb, eqb-false, le-leb}
 use lib.Dec.{eqb}
@@ -10,7 +10,7 @@ use lib.ListN.{length, getD}
 use Rattle.definition.specs.Syntax.{Term, name, string, anything, Expression}
 use Rattle.definition.specs.Names.{closures}
 use Rattle.words.specs.Fields.{word, kind-of, p-of, q-of, CLOSURE, TERM, ANYTHING, STRING, TRUTH, FALSITY}
-use Rattle.words.specs.Raw.{number, leaf, leaves, size, flat}
+use Rattle.words.specs.Raw.{number, leaf, size, flat}
 use Rattle.words.proofs.FieldLaws.{kind-word, p-word, q-word, r-word}
 use Rattle.words.proofs.Sizes.{length-flat}
 use Rattle.eval.specs.Nodes.{a-of, b-of, c-of, d-of, n-of, operands-of}

@@ -1,30 +1,28 @@
 -- The lowered words of a PRINT are what printing asks for.
-use Prim.Native.Nat.{ℕ, zero, suc, _+_, _-_, _%_, _<_, _≤_}
-use mathlib.Core.Path.{_≡_, refl, sym, ap, _∙_, subst}
+use Prim.Native.Nat.{ℕ, suc, _+_, _-_, _%_, _<_, _≤_}
+use mathlib.Core.Path.{_≡_, refl, sym, ap, _∙_}
 use mathlib.Core.Bool.{Bool, true, false}
-use mathlib.Core.List.{List, [], _∷_, _++_, map}
+use mathlib.Core.List.{List, [], _∷_, map}
 use native.Mathlib.Omega.{arith}
 use borrow.Author.Tests.{ltb-true, ltb-false}
-use lib.Dec.{T, ltb}
-use lib.ListN.{length, getD, take, drop}
-use Rattle.definition.specs.Text.{Text, member}
+use lib.Dec.{ltb}
+use lib.ListN.{length, getD}
+use Rattle.definition.specs.Text.{Text}
 use Rattle.definition.specs.Token.{Token}
 use Rattle.definition.specs.Syntax.{Term, name, string, anything, Expression, Item, rows, line-end}
 use Rattle.definition.specs.Syntax as Syntax
-use Rattle.definition.specs.Names.{free, closures}
+use Rattle.definition.specs.Names.{free}
 use Rattle.definition.specs.Accept.{Accepted, elements}
-use Rattle.words.specs.Fields.{word, kind-of, p-of, q-of, WORD, ROWS, SAY, LINE-END, CLOSURE, STRING, PRINT}
+use Rattle.words.specs.Fields.{word, kind-of, p-of, WORD, ROWS, SAY, LINE-END, STRING, PRINT}
 use Rattle.words.specs.Raw.{number, leaf, leaves, size, flat, size-item, flat-item, size-items, flat-items}
-use Rattle.words.specs.Tokens.{OwnName, OwnString}
-use Rattle.words.proofs.Sizes.{length-leaves, length-flat, length-item, length-items}
+use Rattle.words.proofs.Sizes.{length-leaves, length-flat, length-item}
 use Rattle.intern.specs.Entries.{start-of, text-at}
 use Rattle.digits.specs.Lists.{pack}
 use Rattle.digits.specs.Packed.{count}
 use Rattle.digits.proofs.Packing.{count-law}
-use Rattle.eval.specs.Nodes.{operand, slot, n-of}
 use Rattle.free.specs.Words.{is-leaf}
 use Rattle.words.specs.Standing.{Has}
-use Rattle.words.proofs.Places.{has-append, One, has-one}
+use Rattle.words.proofs.Places.{has-append, has-one}
 use Rattle.prints.specs.Lowered.{is-item, item-closures, Leaf, by-variable, by-string, Label, no-label, one-label, RowsLowered, ItemLowered, lowered-rows, lowered-word, lowered-end, ItemsLowered, none, more, PrintLowered}
 use Rattle.lowering.specs.Lowering.{at, label-place, lower-at, Filled}
 use Rattle.lowering.specs.Agreement.{Scoped, ScopedWord, ScopedLabel, ScopedItem, ScopedItems, FreeAt, Agrees, Spelled}

@@ -1,28 +1,27 @@
 -- The operands of lowered words stand for the terms of the text.
 use Prim.Native.Nat.{ℕ, zero, suc, _+_, _*_, _-_, _/_, _%_, _<_, _≤_}
 use mathlib.Core.Path.{_≡_, refl, sym, ap, _∙_, subst}
-use mathlib.Core.Bool.{Bool, true, false, not, _&&_, _||_, cond}
+use mathlib.Core.Bool.{Bool, true, false, not, _&&_, cond}
 use mathlib.Core.List.{List, [], _∷_}
 use native.Mathlib.Omega.{arith}
 use borrow.Author.Tests.{lt-ltb, le-ltb, ne-eqb}
-use lib.Dec.{T, eqb, ltb}
+use lib.Dec.{eqb, ltb}
 use lib.ListN.{length, getD}
-use Rattle.definition.specs.Text.{Text, member, some-of, all-of, from, below}
+use Rattle.definition.specs.Text.{Text, some-of, all-of, from, below}
 use Rattle.definition.specs.Token.{Token}
 use Rattle.definition.specs.Syntax.{Term, name, string, anything}
 use Rattle.definition.specs.Accept.{Accepted, elements}
 use Rattle.definition.specs.Meaning.{choices, nowhere}
-use Rattle.words.specs.Fields.{word, kind-of, p-of, TERM, ANYTHING, STRING}
+use Rattle.words.specs.Fields.{word, TERM, ANYTHING, STRING}
 use Rattle.words.specs.Raw.{number, leaf, leaves}
 use Rattle.words.specs.Tokens.{OwnName, OwnString}
 use Rattle.words.proofs.FieldLaws.{kind-word, p-word}
 use Rattle.eval.specs.Nodes.{Operand, element, slot, variable, operand, operands}
-use Rattle.eval.specs.Nodes as Nodes
 use Rattle.words.specs.Standing.{Has}
 use Rattle.meaning.specs.Lowered.{Stands, Stand}
 use Rattle.meaning.specs.Lowered as Lowered
 use Rattle.lowering.specs.Lowering.{at, term-byte, operands-at, may-stand, all-stand}
-use Rattle.lowering.specs.Agreement.{Held, attribute, variable, ScopedTerm, ScopedTerms, Element, found, missing, Agrees}
+use Rattle.lowering.specs.Agreement.{attribute, variable, ScopedTerm, ScopedTerms, Element, found, missing, Agrees}
 use Rattle.lowering.proofs.Words.{term-small}
 
 pub element-byte : (b : ℕ) → b < 64 → operand b ≡ element b

@@ -1,15 +1,13 @@
 -- The fields of lowered words.
-use Prim.Native.Nat.{ℕ, zero, suc, _+_, _*_, _-_, _/_, _%_, _<_, _≤_}
-use mathlib.Core.Path.{_≡_, refl, sym, ap, _∙_}
+use Prim.Native.Nat.{ℕ, _+_, _*_, _-_, _/_, _%_, _<_, _≤_}
+use mathlib.Core.Path.{_≡_}
 use mathlib.Core.Bool.{Bool, true, false, cond}
 use native.Mathlib.Omega.{arith}
-use borrow.Author.Tests.{ne-eqb}
 use lib.Dec.{eqb, ltb}
-use Rattle.words.specs.Fields.{word, kind-of, p-of, q-of, r-of}
-use Rattle.words.proofs.FieldLaws.{kind-word, p-word, q-word, r-word}
+use Rattle.words.specs.Fields.{kind-of, p-of, q-of}
 use Rattle.eval.specs.Nodes.{a-of, b-of, c-of, d-of, n-of, operands-of}
-use Rattle.digits.specs.Packed.{has, count}
-use Rattle.lowering.specs.Lowering.{Cells, lowered, slot-of, slots-of, slot-bit, mask, term-byte, operands-at, all-stand, kind-field, node-p, p-field, operand-field, count-field}
+use Rattle.digits.specs.Packed.{has}
+use Rattle.lowering.specs.Lowering.{Cells, lowered, slots-of, slot-bit, mask, term-byte, operands-at, all-stand, kind-field, node-p, p-field, operand-field, count-field}
 use Rattle.lowering.proofs.Filling.{count-small}
 
 module _ (k p o n : ℕ) (hk : k < 256) (hp : p < 65536) (ho : o < 4294967296) (hn : n < 256) where

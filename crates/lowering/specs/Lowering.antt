@@ -15,12 +15,16 @@ use Rattle.slots.specs.Slots.{one-closure}
 abbrev pub lowered : ℕ → ℕ → ℕ → ℕ → ℕ
 lowered k p o n = k + p * 256 + o * 16777216 + n * 72057594037927936
 
+-- four bytes, the first lowest
+abbrev pub four-bytes : ℕ → ℕ → ℕ → ℕ → ℕ
+four-bytes a b c d = a + b * 256 + c * 65536 + d * 16777216
+
 -- the slot of a digit, and the slots of four digits
 abbrev pub slot-of : ℕ → ℕ
 slot-of d = d - 1
 
 unfoldable pub slots-of : ℕ → ℕ
-slots-of f = slot-of (f % 8) + slot-of (f / 8 % 8) * 256 + slot-of (f / 64 % 8) * 65536 + slot-of (f / 512 % 8) * 16777216
+slots-of f = four-bytes (slot-of (f % 8)) (slot-of (f / 8 % 8)) (slot-of (f / 64 % 8)) (slot-of (f / 512 % 8))
 
 -- v if d is among the digits of a or of b
 unfoldable pub slot-bit : ℕ → ℕ → ℕ → ℕ → ℕ
@@ -43,7 +47,7 @@ term-byte C w = cond (eqb (kind-of w) ANYTHING) 254 (C (p-of w) % 256)
 
 -- those of four words
 unfoldable pub operands-at : Cells → Cells → ℕ → ℕ
-operands-at R C k = term-byte C (R k) + term-byte C (R (k + 1)) * 256 + term-byte C (R (k + 2)) * 65536 + term-byte C (R (k + 3)) * 16777216
+operands-at R C k = four-bytes (term-byte C (R k)) (term-byte C (R (k + 1))) (term-byte C (R (k + 2))) (term-byte C (R (k + 3)))
 
 -- a term may stand for an element
 unfoldable pub may-stand : Cells → ℕ → ℕ → Bool

@@ -2,10 +2,9 @@
 ghost use mathlib.Core.Path.{_≡_};
 ghost use Prim.Native.Nat.{_-_, _%_, _<_, _≤_};
 ghost use lib.ListN.{length, getD};
-ghost use Rattle.intern.specs.Entries.{start-of};
-ghost use Rattle.slots.specs.Slots.{one-closure};
-ghost use Rattle.lowering.specs.Lowering.{lowered, slot-of, slots-of, slot-bit, mask, at, term-byte, label-place, depth-of, range-field, closure-field, comparison-field, operands-at, may-stand, all-stand, kind-field, node-p, p-field, operand-field, count-field, lower-word, lower-at, Filled};
+ghost use Rattle.lowering.specs.Lowering.{lowered, four-bytes, slot-of, slots-of, slot-bit, mask, at, term-byte, label-place, depth-of, range-field, closure-field, comparison-field, operands-at, may-stand, all-stand, kind-field, node-p, p-field, operand-field, count-field, lower-word, lower-at, Filled};
 use words::word_at;
+use words::word_before;
 
 fn pack(k: u64, p: u64, o: u64, n: u64) -> u64
     requires { ⌜ (k < 256) × ((p < 65536) × ((o < 4294967296) × (n < 256))) ⌝ }
@@ -22,6 +21,14 @@ fn slot_of(d: u64) -> u64
     if d == 0 { 0 } else { d - 1 }
 }
 
+// Four bytes, the first lowest.
+fn four_bytes(a: u64, b: u64, c: u64, d: u64) -> u64
+    requires { ⌜ (a < 256) × ((b < 256) × ((c < 256) × (d < 256))) ⌝ }
+    ensures { λ r. ⌜ (r ≡ four-bytes a b c d) × (r < 4294967296) ⌝ }
+{
+    a + b * 256 + c * 65536 + d * 16777216
+}
+
 // The slots of four digits.
 fn slots_of(f: u64) -> u64
     ensures { λ r. ⌜ (r ≡ slots-of f) × (r < 4294967296) ⌝ }
@@ -30,7 +37,7 @@ fn slots_of(f: u64) -> u64
     let b = slot_of(f / 8 % 8);
     let c = slot_of(f / 64 % 8);
     let d = slot_of(f / 512 % 8);
-    a + b * 256 + c * 65536 + d * 16777216
+    four_bytes(a, b, c, d)
 }
 
 // v if d is among the digits of a or of b.
@@ -75,7 +82,7 @@ fn operands_at(words: &[u64], codes: &[u64], k: usize) -> u64
     let b = term_byte(codes, word_at(words, k + 1));
     let c = term_byte(codes, word_at(words, k + 2));
     let d = term_byte(codes, word_at(words, k + 3));
-    a + b * 256 + c * 65536 + d * 16777216
+    four_bytes(a, b, c, d)
 }
 
 // Whether a term may stand for an element.
@@ -146,16 +153,6 @@ fn node_p(words: &[u64], codes: &[u64], w: u64) -> u64
     }
 }
 
-// The place of a string's first byte.
-fn first_byte(t: u64) -> u64
-    ensures { λ r. ⌜ (r ≡ start-of t % 65536) × (r < 65536) ⌝ }
-{
-    if t % 64 == 48 {
-        return (t / 4096 + 1) % 65536;
-    }
-    t / 4096 % 65536
-}
-
 // The depth of a loop variable's FOR.
 fn depth_of(c: u64) -> u64
     ensures { λ r. ⌜ (r ≡ depth-of c) × (r < 65536) ⌝ }
@@ -184,17 +181,7 @@ fn p_field(words: &[u64], codes: &[u64], tokens: &[u64], w: u64) -> u64
     if k < 44 {
         return word_at(codes, p) % 65536;
     }
-    first_byte(word_at(tokens, p))
-}
-
-// What stands just before a place.
-fn word_before(s: &[u64], k: usize) -> u64
-    ensures { λ r. ⌜ r ≡ getD (now (s .entry)) (k - 1) 0 ⌝ }
-{
-    if k == 0 {
-        return word_at(s, 0);
-    }
-    word_at(s, k - 1)
+    intern::start(word_at(tokens, p)) as u64 % 65536
 }
 
 fn range_field(q: u64, f: u64) -> u64
@@ -282,12 +269,6 @@ fn lower_word(
     pack(kind, p, o, n)
 }
 
-fn one_closure(w: u64) -> u64
-    ensures { λ r. ⌜ (r ≡ one-closure w) × (r ≤ 1) ⌝ }
-{
-    if w % 256 == 21 { 1 } else { 0 }
-}
-
 // The words of a statement, from place lo to place hi.
 pub fn lower_part(
     words: &[u64],
@@ -306,7 +287,7 @@ pub fn lower_part(
     let mut k = lo;
     while k < hi {
         low[k] = lower_word(words, codes, tokens, free, u, c, k);
-        c += one_closure(word_at(words, k));
+        c += slots::one_closure(word_at(words, k)) as u64;
         k += 1;
     }
 }

@@ -33,10 +33,6 @@ then-assoc : (x a b : Answer (Unit {0})) → _>>_ (_>>_ x a) b ≡ _>>_ x (_>>_ 
 then-assoc (ok u) a b = refl
 then-assoc (refused r p) a b = refl
 
-has-next : (words : List ℕ) (n w : ℕ) (ws : List ℕ) → Has words n (w ∷ ws) → Has words (n + 1) ws
-unfolding Has
-has-next words n w ws h = h .1
-
 module _ (words ids known : List ℕ) (S : Setting words ids known) where
   abbrev R : List Part → Answer (Unit {0}) → Type 0
   R = Rows words ids known S

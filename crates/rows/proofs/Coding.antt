@@ -1,16 +1,16 @@
 -- The slots of a statement's names, by number and by text.
-use Prim.Native.Nat.{ℕ, zero, suc, _+_, _<_, _≤_}
+use Prim.Native.Nat.{ℕ, _+_, _<_, _≤_}
 use mathlib.Core.Path.{_≡_, refl, sym, ap, _∙_}
 use mathlib.Core.Bool.{Bool, true, false, cond, not, _&&_, _||_}
 use mathlib.Core.List.{List, [], _∷_}
 use native.Mathlib.Omega.{arith}
 use borrow.Author.Tests.{lt-ltb, le-ltb}
-use lib.Dec.{eqb, ltb}
+use lib.Dec.{ltb}
 use lib.ListN.{length, getD, take}
 use lib.Seq.{length-take-le}
 use Rattle.definition.specs.Text.{Text, same, some-of, member, keep}
 use Rattle.definition.specs.Token.{Token}
-use Rattle.definition.specs.Names.{Kinds, variables, Use, join, takes-attribute, attribute-names}
+use Rattle.definition.specs.Names.{Use, join, takes-attribute, attribute-names}
 use Rattle.definition.proofs.MeaningLaws.{same-eq}
 use Rattle.words.specs.Fields.{word}
 use Rattle.words.specs.Raw.{number}
@@ -21,7 +21,7 @@ use Rattle.slots.specs.Slots.{takes, names-of, Holds, fits, over, place-from, d
 use Rattle.slots.proofs.Attributes as Attributes
 use Rattle.slots.proofs.Attributes.{Coded, nil, cons}
 use Rattle.free.proofs.Slotted.{pos-from, slot}
-use Rattle.rows.specs.Statements.{Setting, vs}
+use Rattle.rows.specs.Statements.{Setting}
 
 -- attributes are no loop variables
 module _ (v : Text → Bool) (x : Text) (h : v x ≡ true) where

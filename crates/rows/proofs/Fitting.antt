@@ -1,27 +1,27 @@
 -- The tests of a statement's words are the definition's tests of its closures and items.
-use Prim.Native.Nat.{ℕ, zero, suc, _+_, _-_, _<_, _≤_}
-use mathlib.Core.Path.{_≡_, refl, sym, ap, ap₂, _∙_}
-use mathlib.Core.Bool.{Bool, true, false, cond, not, _&&_}
+use Prim.Native.Nat.{ℕ, suc, _+_, _-_, _<_, _≤_}
+use mathlib.Core.Path.{_≡_, refl, sym, ap, _∙_}
+use mathlib.Core.Bool.{Bool, true, false, cond, _&&_, and-assoc, and-comm, and-true}
 use mathlib.Core.List.{List, [], _∷_, _++_, map, append-assoc, append-nil}
 use native.Mathlib.Omega.{arith}
-use borrow.Author.Tests.{ne-eqb, eq-eqb}
+use borrow.Author.Tests.{ne-eqb}
 use lib.Dec.{eqb, leb}
 use lib.ListN.{length, getD, length-map}
-use Rattle.definition.specs.Text.{Text, same, member, all-of, gather}
+use Rattle.definition.specs.Text.{Text, member, all-of, gather}
 use Rattle.definition.specs.Limits.{PRINTED-ATTRIBUTES}
 use Rattle.definition.specs.Token.{Token}
 use Rattle.definition.specs.Syntax.{Term, name, string, anything, Expression, atom, truth, falsity, compare, negation, conjunction, disjunction, implication, equivalence, exists, for-all, closure-of, compare-relations}
 use Rattle.definition.specs.Syntax as Syntax
 use Rattle.definition.specs.Syntax.{Item, rows, line-end}
-use Rattle.definition.specs.Names.{Use, term, attribute-only, variable-only, in-terms, in-expression, in-item, attributes, free, subset, closures, item-expressions}
-use Rattle.words.specs.Fields.{word, kind-of, p-of, RELATION-NAME, ATTRIBUTE, TERM, WORD, BIND, RANGE, ASSIGN, TEST, PRINT, ANYTHING, ATOM, TRUTH, FALSITY, ORDER, NEGATION, CONJUNCTION, DISJUNCTION, IMPLICATION, EQUIVALENCE, EXISTS, FOR-ALL, CLOSURE, COMPARISON, ROWS, SAY, LINE-END, STRING}
+use Rattle.definition.specs.Names.{Use, attribute-only, variable-only, in-terms, in-expression, in-item, attributes, free, subset, closures, item-expressions}
+use Rattle.words.specs.Fields.{word, kind-of, RELATION-NAME, ATTRIBUTE, TERM, WORD, BIND, RANGE, ASSIGN, TEST, PRINT, ANYTHING, ATOM, TRUTH, FALSITY, ORDER, NEGATION, CONJUNCTION, DISJUNCTION, IMPLICATION, EQUIVALENCE, EXISTS, FOR-ALL, CLOSURE, COMPARISON, ROWS, SAY, LINE-END, STRING}
 use Rattle.words.specs.Raw.{number, sign-number, leaf, leaves, size, flat, size-item, flat-item, size-items, flat-items}
 use Rattle.words.specs.Tokens.{OwnName, OwnTerm, OwnTerms, OwnExpression, OwnItem, OwnItems}
 use Rattle.words.proofs.FieldLaws.{kind-word, p-word, q-word}
-use Rattle.words.proofs.Sizes.{length-leaves, length-flat, length-item, size-pos}
+use Rattle.words.proofs.Sizes.{length-leaves, length-flat, length-item}
 use Rattle.digits.specs.Lists.{add, adds, pack}
 use Rattle.digits.specs.Packed.{plus, count, inside}
-use Rattle.digits.proofs.Listing.{Once, Within, Listed, listed-add}
+use Rattle.digits.proofs.Listing.{Listed, listed-add}
 use Rattle.digits.proofs.Packing.{count-law, plus-law, inside-law}
 use Rattle.slots.specs.Slots.{takes}
 use Rattle.free.specs.Words.{is-leaf, at, terms, Filled}
@@ -33,36 +33,14 @@ use Rattle.rows.proofs.Loops.{left-step}
 use Rattle.rows.specs.Tests.{fits, all-fit, left-from, same-digits, own-fits}
 
 -- tests of lists, one after the other
-both-assoc : (a b c : Bool) → (a && b) && c ≡ a && (b && c)
-both-assoc true b c = refl
-both-assoc false b c = refl
-
-both-comm : (a b : Bool) → a && b ≡ b && a
-both-comm true true = refl
-both-comm true false = refl
-both-comm false true = refl
-both-comm false false = refl
-
-both-true : (a : Bool) → a && true ≡ a
-both-true true = refl
-both-true false = refl
-
 all-append : (p : Expression → Bool) (xs ys : List Expression) → all-of p (xs ++ ys) ≡ all-of p xs && all-of p ys
 unfolding all-of
 all-append p [] ys = refl
-all-append p (x ∷ xs) ys = rw (all-append p xs ys) (sym (both-assoc (p x) (all-of p xs) (all-of p ys)))
+all-append p (x ∷ xs) ys = rw (all-append p xs ys) (sym (and-assoc (p x) (all-of p xs) (all-of p ys)))
 
 as-both : (a b : Bool) → cond a b false ≡ a && b
 as-both true b = refl
 as-both false b = refl
-
-none-listed : Listed 4 []
-unfolding Once Within
-none-listed = record { once = tt; within = tt }
-
-nil-pack : pack [] ≡ 0
-unfolding pack
-nil-pack = refl
 
 module _ (F : ℕ → ℕ) where
   fit-cons : (w : ℕ) (ws : List ℕ) (j : ℕ) → all-fit F (w ∷ ws) j ≡ fits F j w && all-fit F ws (j + 1)
@@ -80,7 +58,7 @@ module _ (F : ℕ → ℕ) where
   pub fit-append : (xs ys : List ℕ) (j m : ℕ) → j + length xs ≡ m → all-fit F (xs ++ ys) j ≡ all-fit F xs j && all-fit F ys m
   fit-append [] ys j m e = let i : j ≡ m = omega (arith, e) in rw (fit-nil j, i) refl
   fit-append (x ∷ xs) ys j m e =
-      fit-cons x (xs ++ ys) j ∙ rw (fit-append xs ys (j + 1) m (omega (arith, e)), fit-cons x xs j) (sym (both-assoc (fits F j x) (all-fit F xs (j + 1)) (all-fit F ys m)))
+      fit-cons x (xs ++ ys) j ∙ rw (fit-append xs ys (j + 1) m (omega (arith, e)), fit-cons x xs j) (sym (and-assoc (fits F j x) (all-fit F xs (j + 1)) (all-fit F ys m)))
 
   fit-one : (c p q r j : ℕ) → c < 256 → (c ≡ CLOSURE → ⊥) → (c ≡ ROWS → ⊥) → fits F j (word c p q r) ≡ true
   unfolding fits
@@ -91,7 +69,7 @@ module _ (F : ℕ → ℕ) where
 
   fit-last : (xs : List ℕ) (c p q r j : ℕ) → c < 256 → (c ≡ CLOSURE → ⊥) → (c ≡ ROWS → ⊥) → all-fit F (xs ++ (word c p q r ∷ [])) j ≡ all-fit F xs j
   fit-last xs c p q r j h a b =
-      fit-append xs (word c p q r ∷ []) j (j + length xs) refl ∙ rw (fit-skip c p q r [] (j + length xs) h a b, fit-nil (j + length xs + 1)) (both-true (all-fit F xs j))
+      fit-append xs (word c p q r ∷ []) j (j + length xs) refl ∙ rw (fit-skip c p q r [] (j + length xs) h a b, fit-nil (j + length xs + 1)) (and-true (all-fit F xs j))
 
   pub fit-leaves : (k : ℕ) (ps : List Term) (j : ℕ) → k < 8 → all-fit F (leaves k ps) j ≡ true
   unfolding leaves
@@ -116,6 +94,9 @@ module _ (ts : List Token) (few : length ts < 65536) (words fr : List ℕ) (s N 
   abbrev bottom : (e : Expression) (n : ℕ) → OwnExpression ts e → covered (in-expression e) → s ≤ n → n + size e ≤ N → before n ≡ 0 → Has words n (flat e n) → Bottom e n
   bottom = Trees.bottom ts few words fr s N D filled small names short vs loops named-digit other-digit
 
+  abbrev after : (n c p q r : ℕ) → s ≤ n → c < 256 → is-leaf c ≡ false → getD words n 0 ≡ word c p q r → before (n + 1) ≡ 0
+  after = Trees.after-other ts few words fr s N D filled small names short vs loops named-digit other-digit
+
   abbrev pub two : Expression → Bool
   two e = eqb (length (free vs e)) 2
 
@@ -127,14 +108,35 @@ module _ (ts : List Token) (few : length ts < 65536) (words fr : List ℕ) (s N 
   closure-fits e n h b =
       rw (kind-word CLOSURE (n + size e - 1) 0 0 (omega arith), p-word CLOSURE (n + size e - 1) 0 0 (omega arith) (omega arith), count-free e n b) refl
 
-  fit-pair : (a b : Expression) (n c p q r : ℕ) → c < 256 → (c ≡ CLOSURE → ⊥) → (c ≡ ROWS → ⊥) → all-fit (at fr) (flat a n) n ≡ all-of two (closures a) → all-fit (at fr) (flat b (n + size a)) (n + size a) ≡ all-of two (closures b) →
+  -- the closures among an expression's words fit as its own do
+  abbrev pub Fitted : Expression → ℕ → Type 0
+  Fitted e n = all-fit (at fr) (flat e n) n ≡ all-of two (closures e)
+
+  fit-pair : (a b : Expression) (n c p q r : ℕ) → c < 256 → (c ≡ CLOSURE → ⊥) → (c ≡ ROWS → ⊥) → OwnExpression ts a → covered (in-expression a ++ in-expression b) → s ≤ n → n + size a + size b ≤ N → before n ≡ 0 →
+      Has words n (flat a n ++ (flat b (n + size a) ++ (word c p q r ∷ []))) →
+      (covered (in-expression a) → n + size a ≤ N → Has words n (flat a n) → Fitted a n) →
+      (covered (in-expression b) → s ≤ n + size a → n + size a + size b ≤ N → before (n + size a) ≡ 0 → Has words (n + size a) (flat b (n + size a)) → Fitted b (n + size a)) →
       all-fit (at fr) (flat a n ++ (flat b (n + size a) ++ (word c p q r ∷ []))) n ≡ all-of two (closures a ++ closures b)
-  fit-pair a b n c p q r h x y A B =
+  fit-pair a b n c p q r h x y o u l m cl w first second =
+      let t = has-two words n (word c p q r) a b w in
+      let v = covered-split names vs loops (in-expression a) (in-expression b) u in
+      let A = bottom a n o (v .0) l (omega arith) cl (t .left) in
       fit-append (at fr) (flat a n) _ n (n + size a) (omega (arith, length-flat a n))
-      ∙ rw (A, fit-last (at fr) (flat b (n + size a)) c p q r (n + size a) h x y, B) (sym (all-append two (closures a) (closures b)))
+      ∙ rw (first (v .0) (omega arith) (t .left), fit-last (at fr) (flat b (n + size a)) c p q r (n + size a) h x y, second (v .1) (omega arith) m (A .ended) (t .right))
+      (sym (all-append two (closures a) (closures b)))
+
+  fit-quantifier : (a : Expression) (x : Token) (n c p q : ℕ) → c < 256 → (c ≡ CLOSURE → ⊥) → (c ≡ ROWS → ⊥) → s ≤ n → n + 1 + size a ≤ N →
+      getD words n 0 ≡ word ATTRIBUTE (number x) 0 0 → Has words (n + 1) (flat a (n + 1) ++ (word c p q 0 ∷ [])) →
+      (s ≤ n + 1 → n + 1 + size a ≤ N → before (n + 1) ≡ 0 → Has words (n + 1) (flat a (n + 1)) → Fitted a (n + 1)) →
+      all-fit (at fr) (word ATTRIBUTE (number x) 0 0 ∷ (flat a (n + 1) ++ (word c p q 0 ∷ []))) n ≡ all-of two (closures a)
+  fit-quantifier a x n c p q h y z l m r w inner =
+      fit-skip (at fr) ATTRIBUTE (number x) 0 0 _ n (omega arith) (λ e. omega arith) (λ e. omega arith) ∙ fit-last (at fr) (flat a (n + 1)) c p q 0 (n + 1) h y z
+      ∙ inner (omega arith) m
+      (after n ATTRIBUTE (number x) 0 0 l (omega arith) (Trees.not-leaf ATTRIBUTE (λ e. omega arith) (λ e. omega arith) (λ e. omega arith)) r)
+      (has-one words (n + 1) _ a w .inner)
 
   -- the closures of an expression
-  pub fit-expression : (e : Expression) (n : ℕ) → OwnExpression ts e → covered (in-expression e) → s ≤ n → n + size e ≤ N → before n ≡ 0 → Has words n (flat e n) → all-fit (at fr) (flat e n) n ≡ all-of two (closures e)
+  pub fit-expression : (e : Expression) (n : ℕ) → OwnExpression ts e → covered (in-expression e) → s ≤ n → n + size e ≤ N → before n ≡ 0 → Has words n (flat e n) → Fitted e n
   unfolding size flat closures in-expression OwnExpression Has Covered all-of
   fit-expression (atom r ps) n o c l h cl w =
       fit-skip (at fr) RELATION-NAME _ _ 0 _ n (omega arith) (λ e. omega arith) (λ e. omega arith) ∙ fit-last (at fr) (leaves TERM ps) ATOM _ _ 0 (n + 1) (omega arith) (λ e. omega arith) (λ e. omega arith) ∙ fit-leaves (at fr) TERM ps (n + 1) (omega arith)
@@ -145,56 +147,32 @@ module _ (ts : List Token) (few : length ts < 65536) (words fr : List ℕ) (s N 
   fit-expression (negation a) n o c l h cl w =
       fit-last (at fr) (flat a n) NEGATION _ 0 0 n (omega arith) (λ e. omega arith) (λ e. omega arith) ∙ fit-expression a n o c l (omega arith) cl (has-one words n _ a w .inner)
   fit-expression (conjunction a b) n o c l h cl w =
-      let t = has-two words n _ a b w in
-      let u = covered-split names vs loops (in-expression a) (in-expression b) c in
-      let A = bottom a n (o .0) (u .0) l (omega arith) cl (t .left) in
-      fit-pair a b n CONJUNCTION _ _ 0 (omega arith) (λ e. omega arith) (λ e. omega arith) (fit-expression a n (o .0) (u .0) l (omega arith) cl (t .left)) (fit-expression b (n + size a) (o .1) (u .1) (omega arith) (omega arith) (A .ended) (t .right))
+      fit-pair a b n CONJUNCTION _ _ 0 (omega arith) (λ e. omega arith) (λ e. omega arith) (o .0) c l (omega arith) cl w (λ u i v. fit-expression a n (o .0) u l i cl v) (fit-expression b (n + size a) (o .1))
   fit-expression (disjunction a b) n o c l h cl w =
-      let t = has-two words n _ a b w in
-      let u = covered-split names vs loops (in-expression a) (in-expression b) c in
-      let A = bottom a n (o .0) (u .0) l (omega arith) cl (t .left) in
-      fit-pair a b n DISJUNCTION _ _ 0 (omega arith) (λ e. omega arith) (λ e. omega arith) (fit-expression a n (o .0) (u .0) l (omega arith) cl (t .left)) (fit-expression b (n + size a) (o .1) (u .1) (omega arith) (omega arith) (A .ended) (t .right))
+      fit-pair a b n DISJUNCTION _ _ 0 (omega arith) (λ e. omega arith) (λ e. omega arith) (o .0) c l (omega arith) cl w (λ u i v. fit-expression a n (o .0) u l i cl v) (fit-expression b (n + size a) (o .1))
   fit-expression (implication a b) n o c l h cl w =
-      let t = has-two words n _ a b w in
-      let u = covered-split names vs loops (in-expression a) (in-expression b) c in
-      let A = bottom a n (o .0) (u .0) l (omega arith) cl (t .left) in
-      fit-pair a b n IMPLICATION _ _ 0 (omega arith) (λ e. omega arith) (λ e. omega arith) (fit-expression a n (o .0) (u .0) l (omega arith) cl (t .left)) (fit-expression b (n + size a) (o .1) (u .1) (omega arith) (omega arith) (A .ended) (t .right))
+      fit-pair a b n IMPLICATION _ _ 0 (omega arith) (λ e. omega arith) (λ e. omega arith) (o .0) c l (omega arith) cl w (λ u i v. fit-expression a n (o .0) u l i cl v) (fit-expression b (n + size a) (o .1))
   fit-expression (equivalence a b) n o c l h cl w =
-      let t = has-two words n _ a b w in
-      let u = covered-split names vs loops (in-expression a) (in-expression b) c in
-      let A = bottom a n (o .0) (u .0) l (omega arith) cl (t .left) in
-      fit-pair a b n EQUIVALENCE _ _ 0 (omega arith) (λ e. omega arith) (λ e. omega arith) (fit-expression a n (o .0) (u .0) l (omega arith) cl (t .left)) (fit-expression b (n + size a) (o .1) (u .1) (omega arith) (omega arith) (A .ended) (t .right))
+      fit-pair a b n EQUIVALENCE _ _ 0 (omega arith) (λ e. omega arith) (λ e. omega arith) (o .0) c l (omega arith) cl w (λ u i v. fit-expression a n (o .0) u l i cl v) (fit-expression b (n + size a) (o .1))
   fit-expression (compare-relations g a b) n o c l h cl w =
-      let t = has-two words n _ a b w in
-      let u = covered-split names vs loops (in-expression a) (in-expression b) c in
-      let A = bottom a n (o .0) (u .0) l (omega arith) cl (t .left) in
-      fit-pair a b n COMPARISON _ _ (sign-number g) (omega arith) (λ e. omega arith) (λ e. omega arith) (fit-expression a n (o .0) (u .0) l (omega arith) cl (t .left)) (fit-expression b (n + size a) (o .1) (u .1) (omega arith) (omega arith) (A .ended) (t .right))
+      fit-pair a b n COMPARISON _ _ (sign-number g) (omega arith) (λ e. omega arith) (λ e. omega arith) (o .0) c l (omega arith) cl w (λ u i v. fit-expression a n (o .0) u l i cl v) (fit-expression b (n + size a) (o .1))
   fit-expression (exists x a) n o c l h cl w =
-      let t = has-one words (n + 1) _ a (w .1) in
-      fit-skip (at fr) ATTRIBUTE _ 0 0 _ n (omega arith) (λ e. omega arith) (λ e. omega arith) ∙ fit-last (at fr) (flat a (n + 1)) EXISTS _ _ 0 (n + 1) (omega arith) (λ e. omega arith) (λ e. omega arith)
-      ∙ fit-expression a (n + 1) (o .1) (c .1) (omega arith) (omega arith)
-      (Trees.after-other ts few words fr s N D filled small names short vs loops named-digit other-digit n ATTRIBUTE (number x) 0 0 l (omega arith) (Trees.not-leaf ATTRIBUTE (λ e. omega arith) (λ e. omega arith) (λ e. omega arith)) (w .0)) (t .inner)
+      fit-quantifier a x n EXISTS _ _ (omega arith) (λ e. omega arith) (λ e. omega arith) l (omega arith) (w .0) (w .1) (fit-expression a (n + 1) (o .1) (c .1))
   fit-expression (for-all x a) n o c l h cl w =
-      let t = has-one words (n + 1) _ a (w .1) in
-      fit-skip (at fr) ATTRIBUTE _ 0 0 _ n (omega arith) (λ e. omega arith) (λ e. omega arith) ∙ fit-last (at fr) (flat a (n + 1)) FOR-ALL _ _ 0 (n + 1) (omega arith) (λ e. omega arith) (λ e. omega arith)
-      ∙ fit-expression a (n + 1) (o .1) (c .1) (omega arith) (omega arith)
-      (Trees.after-other ts few words fr s N D filled small names short vs loops named-digit other-digit n ATTRIBUTE (number x) 0 0 l (omega arith) (Trees.not-leaf ATTRIBUTE (λ e. omega arith) (λ e. omega arith) (λ e. omega arith)) (w .0)) (t .inner)
+      fit-quantifier a x n FOR-ALL _ _ (omega arith) (λ e. omega arith) (λ e. omega arith) l (omega arith) (w .0) (w .1) (fit-expression a (n + 1) (o .1) (c .1))
   fit-expression (closure-of a) n o c l h cl w =
       let t = has-one words n _ a w in
       let b = bottom a n o c l (omega arith) cl (t .inner) in
       fit-append (at fr) (flat a n) _ n (n + size a) (omega (arith, length-flat a n))
       ∙ rw (fit-expression a n o c l (omega arith) cl (t .inner), fit-cons (at fr) (word CLOSURE (n + size a - 1) 0 0) [] (n + size a), closure-fits a n (omega arith) b, fit-nil (at fr) (n + size a + 1))
-      (rw (both-true (two a)) (both-comm (all-of two (closures a)) (two a)))
-
-  abbrev after : (n c p q r : ℕ) → s ≤ n → c < 256 → is-leaf c ≡ false → getD words n 0 ≡ word c p q r → before (n + 1) ≡ 0
-  after = Trees.after-other ts few words fr s N D filled small names short vs loops named-digit other-digit
+      (rw (and-true (two a)) (and-comm (all-of two (closures a)) (two a)))
 
   anything-clear : (n : ℕ) → s ≤ n → n < N → before n ≡ 0 → getD words n 0 ≡ word ANYTHING 0 0 0 → before (n + 1) ≡ 0
   unfolding add
   anything-clear n l h cl x =
-      Trees.leaf-free ts few words fr s N D filled small names short vs loops named-digit other-digit n anything [] l h tt x (Trees.nil-listed ts few words fr s N D filled small names short vs loops named-digit other-digit)
-      (cl ∙ sym nil-pack)
-      ∙ nil-pack
+      Trees.leaf-free ts few words fr s N D filled small names short vs loops named-digit other-digit n anything [] l h tt x Trees.nil-listed
+      (cl ∙ sym Trees.pack-nil)
+      ∙ Trees.pack-nil
 
   -- words that are no terms leave nothing before what follows
   pub leaves-clear : (k : ℕ) (ps : List Term) (n : ℕ) → k < 8 → is-leaf k ≡ false → is-leaf (STRING + k) ≡ false → s ≤ n → n + length ps ≤ N → before n ≡ 0 → Has words n (leaves k ps) → before (n + length ps) ≡ 0
@@ -241,7 +219,7 @@ module _ (ts : List Token) (few : length ts < 65536) (words fr : List ℕ) (s N 
 
   tests-one : (e : Expression) → tests (e ∷ []) ≡ all-of two (closures e) && printed e
   unfolding all-of gather
-  tests-one e = rw (both-true (printed e), append-nil (closures e)) (both-comm (printed e) (all-of two (closures e)))
+  tests-one e = rw (and-true (printed e), append-nil (closures e)) (and-comm (printed e) (all-of two (closures e)))
 
   tests-none : tests [] ≡ true
   unfolding all-of gather
@@ -259,7 +237,7 @@ module _ (ts : List Token) (few : length ts < 65536) (words fr : List ℕ) (s N 
       let j : m + size e + 1 ≡ n + (length ps + (size e + 1)) = omega arith in
       record {
         fit = fit-append (at fr) (leaves WORD ps) _ n m (omega (arith, length-leaves WORD ps))
-            ∙ rw (fit-leaves (at fr) WORD ps n (omega arith), fit-append (at fr) (flat e m) (word ROWS n (length ps) 0 ∷ []) m (m + size e) (omega (arith, length-flat e m)), fit-expression e m (o .1) (u .1) (omega arith) (omega arith) clear (b .inner), fit-cons (at fr) (word ROWS n (length ps) 0) [] (m + size e), rows-fits e n m (length ps) B, fit-nil (at fr) (m + size e + 1), both-true (printed e))
+            ∙ rw (fit-leaves (at fr) WORD ps n (omega arith), fit-append (at fr) (flat e m) (word ROWS n (length ps) 0 ∷ []) m (m + size e) (omega (arith, length-flat e m)), fit-expression e m (o .1) (u .1) (omega arith) (omega arith) clear (b .inner), fit-cons (at fr) (word ROWS n (length ps) 0) [] (m + size e), rows-fits e n m (length ps) B, fit-nil (at fr) (m + size e + 1), and-true (printed e))
             (sym (tests-one e));
         clear = rw (← j) (after (m + size e) ROWS n (length ps) 0 (omega arith) (omega arith) refl (b .root));
       }
@@ -306,7 +284,7 @@ module _ (ts : List Token) (few : length ts < 65536) (words fr : List ℕ) (s N 
   unfolding own-fits
   tested-right e l i o c h w x =
       rw (own-kind TEST 0 l i (omega arith) x, free-before e s h (bottom e s o c (omega arith) (omega arith) start-clear w), fit-expression e s o c (omega arith) (omega arith) start-clear w)
-      (both-comm (all-of two (closures e)) (eqb (length (free vs e)) 0))
+      (and-comm (all-of two (closures e)) (eqb (length (free vs e)) 0))
 
   pub ranged-right : (e : Expression) (b v l i : ℕ) → OwnExpression ts e → covered (in-expression e) → N ≡ s + 1 + size e → getD words s 0 ≡ word BIND b 0 0 → Has words (s + 1) (flat e (s + 1)) → getD words N 0 ≡ word RANGE v l i →
       all-fit (at fr) (word BIND b 0 0 ∷ flat e (s + 1)) s && own-fits (at words) D (at fr) N (getD words N 0) ≡ eqb (length (free vs e)) 1 && all-of two (closures e)
@@ -314,13 +292,13 @@ module _ (ts : List Token) (few : length ts < 65536) (words fr : List ℕ) (s N 
   ranged-right e b v l i o c h y w x =
       let clear = after s BIND b 0 0 (omega arith) (omega arith) refl y in
       rw (own-kind RANGE v l i (omega arith) x, free-before e (s + 1) h (bottom e (s + 1) o c (omega arith) (omega arith) clear w), fit-skip (at fr) BIND b 0 0 (flat e (s + 1)) s (omega arith) (λ z. omega arith) (λ z. omega arith), fit-expression e (s + 1) o c (omega arith) (omega arith) clear w)
-      (both-comm (all-of two (closures e)) (eqb (length (free vs e)) 1))
+      (and-comm (all-of two (closures e)) (eqb (length (free vs e)) 1))
 
   pub printed-right : (is : List Item) (p i : ℕ) → OwnItems ts is → covered (gather in-item is) → N ≡ s + size-items is → Has words s (flat-items is s) → getD words N 0 ≡ word PRINT p 0 i →
       all-fit (at fr) (flat-items is s) s && own-fits (at words) D (at fr) N (getD words N 0) ≡ tests (gather item-expressions is)
   unfolding own-fits
   printed-right is p i o c h w x =
-      rw (own-kind PRINT p 0 i (omega arith) x) (both-true (all-fit (at fr) (flat-items is s) s) ∙ fit-items is s o c (omega arith) (omega arith) start-clear w .fit)
+      rw (own-kind PRINT p 0 i (omega arith) x) (and-true (all-fit (at fr) (flat-items is s) s) ∙ fit-items is s o c (omega arith) (omega arith) start-clear w .fit)
 
   -- the left side of an assignment
   left-digit : (p : Term) → OwnTerm ts p → D (leaf ATTRIBUTE p) ≡ digit names vs loops p
@@ -370,10 +348,10 @@ module _ (ts : List Token) (few : length ts < 65536) (words fr : List ℕ) (s N 
     same-lefts = Trees.atom-slots ts few words fr s N D filled small names short vs loops named-digit other-digit ps ti
 
     sum : left-from (at words) D (s + 1) (length ps) 0 ≡ pack lefts
-    sum = rw (← nil-pack, ← same-lefts) (left-sum ps (s + 1) [] op wp none-listed .0)
+    sum = rw (← Trees.pack-nil, ← same-lefts) (left-sum ps (s + 1) [] op wp Trees.nil-listed .0)
 
     listed : Listed 4 lefts
-    listed = rw (← same-lefts) (left-sum ps (s + 1) [] op wp none-listed .1)
+    listed = rw (← same-lefts) (left-sum ps (s + 1) [] op wp Trees.nil-listed .1)
 
     frees : getD fr (N - 1) 0 ≡ pack (map (slot names) (free vs e))
     frees = rw h (low .value)
@@ -402,4 +380,4 @@ module _ (ts : List Token) (few : length ts < 65536) (words fr : List ℕ) (s N 
 
     pub assigned-right : all-fit (at fr) (word RELATION-NAME n (length ps) 0 ∷ (leaves ATTRIBUTE ps ++ flat e (s + 1 + length ps))) s && own-fits (at words) D (at fr) N (getD words N 0)
         ≡ (subset (attributes vs ps) (free vs e) && subset (free vs e) (attributes vs ps)) && all-of two (closures e)
-    assigned-right = rw (words-fit, own) (both-comm (all-of two (closures e)) (subset (attributes vs ps) (free vs e) && subset (free vs e) (attributes vs ps)))
+    assigned-right = rw (words-fit, own) (and-comm (all-of two (closures e)) (subset (attributes vs ps) (free vs e) && subset (free vs e) (attributes vs ps)))

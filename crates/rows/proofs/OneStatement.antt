@@ -1,18 +1,17 @@
 -- One statement: rows 13 and 12 as the definition has them.
-use Prim.Native.Nat.{ℕ, zero, suc, _+_, _-_, _<_, _≤_}
-use mathlib.Core.Path.{_≡_, refl, sym, ap, ap₂, _∙_}
-use mathlib.Core.Bool.{Bool, true, false, cond, not, _&&_, _||_}
+use Prim.Native.Nat.{ℕ, _+_, _-_, _<_, _≤_}
+use mathlib.Core.Path.{_≡_, refl, sym, ap, _∙_}
+use mathlib.Core.Bool.{Bool, true, false, cond, _&&_, _||_}
 use mathlib.Core.List.{List, [], _∷_, _++_, append-nil}
 use native.Mathlib.Omega.{arith}
-use native.Mathlib.Nat.{add-sub-cancel-left}
 use borrow.Author.Tests.{ltb-false}
-use lib.Dec.{eqb, leb, ltb}
+use lib.Dec.{eqb, ltb}
 use lib.ListN.{length, getD, take, drop, length-append}
 use Rattle.definition.specs.Text.{Text, member, all-of, gather}
 use Rattle.definition.specs.Token.{Token}
-use Rattle.definition.specs.Syntax.{Term, Expression, Item}
-use Rattle.definition.specs.Answer.{Answer, ok, refused, _>>_, refuse-if}
-use Rattle.definition.specs.Names.{Use, use-as, before-terms, attribute-only, after-for, in-terms, in-expression, in-item, attributes, free, closures, attribute-names, subset, item-expressions, statement-rows}
+use Rattle.definition.specs.Syntax.{Term, Expression}
+use Rattle.definition.specs.Answer.{ok, refused}
+use Rattle.definition.specs.Names.{Use, use-as, before-terms, attribute-only, after-for, in-terms, in-expression, in-item, free, closures, attribute-names, statement-rows}
 use Rattle.words.specs.Fields.{word, r-of, RELATION-NAME, ATTRIBUTE, BIND, RANGE, ASSIGN, TEST, PRINT}
 use Rattle.words.specs.Raw.{number, leaves, size, flat, size-items, flat-items}
 use Rattle.words.specs.Tokens.{OwnName}

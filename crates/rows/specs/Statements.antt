@@ -8,7 +8,7 @@ use lib.ListN.{length, drop}
 use Rattle.definition.specs.Text.{Text, all-of, gather}
 use Rattle.definition.specs.Limits.{PRINTED-ATTRIBUTES}
 use Rattle.definition.specs.Token.{Token}
-use Rattle.definition.specs.Syntax.{Term, Expression, Item, Program}
+use Rattle.definition.specs.Syntax.{Term, Expression, Item}
 use Rattle.definition.specs.Answer.{Answer, ok, refused, number, place, _>>_}
 use Rattle.definition.specs.Names.{Kinds, variables, Use, attribute-only, in-terms, in-expression, in-item, attributes, free, subset, item-expressions, statement-rows}
 use Rattle.words.specs.Fields.{word, RELATION-NAME, ATTRIBUTE, BIND, RANGE, ASSIGN, TEST, PRINT}

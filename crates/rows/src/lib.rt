@@ -17,6 +17,7 @@ ghost use Rattle.rows.specs.Statements.{meets, Setting, vs, Stated, Rows
 use definition::Refusal;
 use slots::Found;
 use words::word_at;
+use words::word_before;
 
 // Whether statements keep the limits, or why they are refused.
 pub enum Ruled {
@@ -30,16 +31,6 @@ pub enum Turn {
     Stop(Refusal),
 }
 
-// What stands before place j.
-fn before(fr: &[u64], j: usize) -> u64
-    ensures { λ r. ⌜ r ≡ getD (now (fr .entry)) (j - 1) 0 ⌝ }
-{
-    if j == 0 {
-        return word_at(fr, 0);
-    }
-    word_at(fr, j - 1)
-}
-
 // "TC and TCFAST two, a printed expression at most 3": the word w at j.
 fn fits(fr: &[u64], j: usize, w: u64) -> bool
     ensures { λ r. ⌜ r ≡ fits (at (now (fr .entry))) j w ⌝ }
@@ -49,7 +40,7 @@ fn fits(fr: &[u64], j: usize, w: u64) -> bool
         return digits::count(word_at(fr, (w / 256 % 65536) as usize)) == 2;
     }
     if c == 30 {
-        return digits::count(before(fr, j)) <= 3;
+        return digits::count(word_before(fr, j)) <= 3;
     }
     true
 }
@@ -98,7 +89,7 @@ fn own_fits(words: &[u64], f: Found, ids: &[u64], fr: &[u64], k: usize, w: u64) 
     ensures { λ r. ⌜ r ≡ own-fits (at (now (words .entry))) (digit-at f (now (ids .entry))) (at (now (fr .entry))) k w ⌝ }
 {
     let c = w % 256;
-    let v = before(fr, k);
+    let v = word_before(fr, k);
     if c == 34 {
         return digits::count(v) == 0;
     }
@@ -151,25 +142,16 @@ fn statement(words: &[u64], ids: &[u64], known: &[u64], fr: &mut [u64], s: usize
 fn ends(c: u64) -> u64
     ensures { λ r. ⌜ r ≡ ends c ⌝ }
 {
-    if c == 33 {
-        return 2;
+    match c {
+        6 => 2,
+        7 => 1,
+        33 => 2,
+        34 => 2,
+        35 => 1,
+        36 => 1,
+        37 => 2,
+        _ => 0,
     }
-    if c == 34 {
-        return 2;
-    }
-    if c == 37 {
-        return 2;
-    }
-    if c == 6 {
-        return 2;
-    }
-    if c == 35 {
-        return 1;
-    }
-    if c == 36 {
-        return 1;
-    }
-    if c == 7 { 1 } else { 0 }
 }
 
 // On after a statement at k, unless it is refused.
@@ -201,7 +183,7 @@ fn step(words: &[u64], ids: &[u64], known: &[u64], fr: &mut [u64], s: usize, k: 
 }
 
 // "13 then 12 by statement".
-pub fn check(words: &[u64], ids: &[u64], known: &[u64], fr: &mut [u64]) -> Ruled
+pub fn program_rows(words: &[u64], ids: &[u64], known: &[u64], fr: &mut [u64]) -> Ruled
     requires { ⌜ (length (now words) ≤ length (now fr)) × (length (now words) < 65536) ⌝ }
     requires { ⌜ Small (now fr) ⌝ }
     ensures { λ r. ⌜ ((S : Setting (now (words .entry)) (now (ids .entry)) (now (known .entry))) (p : Program) → OwnProgram (S .ts) p → now (words .entry) ≡ flat-program p 0 → meets r (program-rows (variables (S .kinds)) p)) ⌝ }

@@ -1,5 +1,5 @@
 -- The names that a statement's words show as attributes are the definition's.
-use Prim.Native.Nat.{ℕ, zero, suc, _+_, _<_, _≤_}
+use Prim.Native.Nat.{ℕ, zero, suc, _<_}
 use mathlib.Core.Path.{_≡_, refl, sym, ap, _∙_}
 use mathlib.Core.Bool.{Bool, true, false, cond, not, _&&_, _||_}
 use mathlib.Core.List.{List, [], _∷_, _++_}
@@ -7,10 +7,10 @@ use native.Mathlib.Omega.{arith}
 use borrow.Author.Tests.{eq-eqb, ne-eqb, eqb-true, eqb-false}
 use lib.Dec.{eqb}
 use lib.ListN.{length, getD}
-use Rattle.definition.specs.Text.{Text, same, some-of, member}
+use Rattle.definition.specs.Text.{Text, some-of, member}
 use Rattle.definition.specs.Token.{Token}
-use Rattle.definition.specs.Names.{Role, before-terms, attribute-only, term, variable-only, after-for, enter, leave, Use, use-as, Known, nothing, attribute, variable, open-variable, relation, Kinds, is-variable, variables, join, takes-attribute, attribute-names}
-use Rattle.words.specs.Fields.{kind-of, p-of, q-of, RELATION-NAME, ATTRIBUTE, TERM, WORD, BIND, RANGE, NEXT}
+use Rattle.definition.specs.Names.{variable-only, after-for, enter, leave, Use, use-as, Kinds, is-variable, variables, join, takes-attribute, attribute-names}
+use Rattle.words.specs.Fields.{kind-of, p-of, WORD, BIND, RANGE, NEXT}
 use Rattle.words.specs.Raw.{number}
 use Rattle.words.specs.Tokens.{OwnName}
 use Rattle.words.specs.Shown.{role-of, Shows, none, other, named}
@@ -18,7 +18,7 @@ use Rattle.intern.specs.Entries.{text-at, Stand}
 use Rattle.kinds.specs.Walk.{known-of}
 use Rattle.kinds.specs.Resolved.{Stands}
 use Rattle.digits.specs.Lists as Lists
-use Rattle.slots.specs.Slots.{takes, of-loop, add-name, add-word, names-of, place-from}
+use Rattle.slots.specs.Slots.{takes, of-loop, add-name, add-word, names-of}
 use Rattle.slots.proofs.Texts.{add-text, join-add, join-nil, nil-join}
 
 pub eqb-sym : (a b : ℕ) → eqb a b ≡ eqb b a

@@ -117,7 +117,7 @@ pub fn digit_at(f: Found, ids: &[u64], w: u64) -> u64
 }
 
 // Whether a word is a closure's, as a number.
-fn one_closure(w: u64) -> usize
+pub fn one_closure(w: u64) -> usize
     ensures { λ r. ⌜ (r ≡ one-closure w) × (r ≤ 1) ⌝ }
 {
     if w % 256 == 21 { 1 } else { 0 }

@@ -4,24 +4,16 @@ use denote.Ref.{now}
 use Rattle.acceptance.proofs.Accepting.{facts-in, facts-wrong}
 use Rattle.acceptance.proofs.accept.Statement.{statement}
 use Rattle.acceptance.proofs.accept.Tie as tie
-use Rattle.acceptance.proofs.accept.Reads as reads
-use Rattle.acceptance.proofs.accept.Lts as lts
-use Rattle.acceptance.proofs.with_facts.Reads as with-facts-reads
-use Rattle.facts.proofs.read_facts.Reads as read-facts-reads
 
--- src/lib.rt:168:11
 read-facts-requires : tie.Need-read-facts-requires
 read-facts-requires c κs = search needs
 
--- src/lib.rt:169:28
 enum-known-q : tie.Need-enum-known-q
 enum-known-q c = search needs
 
--- src/lib.rt:170:26
 enum-known-c : tie.Need-enum-known-c
 enum-known-c c = search needs
 
--- src/lib.rt:170:32
 with-facts-requires : tie.Need-with-facts-requires
 with-facts-requires c κs =
     let s = c .before .before .before .before .before .before .before .before .before .before .before .before .before .before .before .before .before .before .before .before .before .before .before .before .before .before in
@@ -31,50 +23,39 @@ with-facts-requires c κs =
     let u = f .read .2 .room in
     ((omega (arith, r, f .sixteen), omega arith), ((omega (arith, u, f .sixty-four), omega arith), ((omega arith, omega arith), ((omega arith, (omega arith, omega arith)), s .pre .1 .1 .1))))
 
--- src/lib.rt:151:1
 same-length : tie.Need-same-length
 same-length c = search needs
 
--- src/lib.rt:151:1
 same-length-2 : tie.Need-same-length-2
 same-length-2 c = search needs
 
--- src/lib.rt:151:1
 returns : tie.Need-returns
 returns c =
     let s = c .before .before .before .before .before .before .before .before .before .before .before .before .before .before .before .before .before .before .before in
     let q = c .before .before .before .before .before .before .before .read-facts in
     facts-wrong (now (s .args .facts)) (now (s .args .query)) (now (s .args .relations)) (q .last .1 .1 .0) (now (s .args .places)) (q .last .1 .1 .1 .0) _ (s .pre .0 .0) (s .pre .0 .1) (q .ensures) _ _ _ _ _ (c .before .q .given .1)
 
--- src/lib.rt:151:1
 same-length-3 : tie.Need-same-length-3
 same-length-3 c = search needs
 
--- src/lib.rt:151:1
 same-length-4 : tie.Need-same-length-4
 same-length-4 c = search needs
 
--- src/lib.rt:151:1
 same-length-5 : tie.Need-same-length-5
 same-length-5 c = search needs
 
--- src/lib.rt:151:1
 same-length-6 : tie.Need-same-length-6
 same-length-6 c = search needs
 
--- src/lib.rt:151:1
 same-length-7 : tie.Need-same-length-7
 same-length-7 c = search needs
 
--- src/lib.rt:151:1
 same-length-8 : tie.Need-same-length-8
 same-length-8 c = search needs
 
--- src/lib.rt:151:1
 same-length-9 : tie.Need-same-length-9
 same-length-9 c = search needs
 
--- src/lib.rt:151:1
 returns-2 : tie.Need-returns-2
 returns-2 c =
     let s = c .before .before .before .before .before .before .before .before .before .before .before .before .before .before .before .before .before .before .before .before .before .before .before .before .before .before .before .before .before .before .before .before .before .before .before .before .before .before .before .before .before in

@@ -6,24 +6,16 @@ use lib.Seq.{length-take-le}
 use Rattle.acceptance.proofs.Accepting.{query-right, query-in, query-wrong, with-room}
 use Rattle.acceptance.proofs.with_facts.Statement.{statement}
 use Rattle.acceptance.proofs.with_facts.Tie as tie
-use Rattle.acceptance.proofs.with_facts.Reads as reads
-use Rattle.acceptance.proofs.with_facts.Lts as lts
-use Rattle.acceptance.proofs.with_program.Reads as with-program-reads
-use Rattle.parser.proofs.read_query.Reads as read-query-reads
 
--- src/lib.rt:133:11
 read-query-requires : tie.Need-read-query-requires
 read-query-requires c κs = search needs
 
--- src/lib.rt:134:28
 enum-known-q : tie.Need-enum-known-q
 enum-known-q c = search needs
 
--- src/lib.rt:135:25
 enum-known-t : tie.Need-enum-known-t
 enum-known-t c = search needs
 
--- src/lib.rt:138:13
 slice-reshare-prefix-with-program : tie.Need-slice-reshare-prefix-with-program
 slice-reshare-prefix-with-program c =
     let s = c .before .before .before .before .before .before .before .before .before .before .before .before .before .before .before .before .before .before .before in
@@ -31,7 +23,6 @@ slice-reshare-prefix-with-program c =
     let g = query-right (now (s .args .query)) (q .last .1 .0) (q .last .1 .1 .0) _ (q .ensures) _ _ (c .before .t .given .1) in
     omega (arith, g .few)
 
--- src/lib.rt:138:13
 slice-aggregate-with-program : tie.Need-slice-aggregate-with-program
 slice-aggregate-with-program c =
     let s = c .before .before .before .before .before .before .before .before .before .before .before .before .before .before .before .before .before .before .before .before in
@@ -39,7 +30,6 @@ slice-aggregate-with-program c =
     let g = query-right (now (s .args .query)) (q .last .1 .0) (q .last .1 .1 .0) _ (q .ensures) _ _ (c .before .before .t .given .1) in
     sym (length-take-le _ _ (omega (arith, g .few)))
 
--- src/lib.rt:139:13
 slice-reshare-prefix-with-program-2 : tie.Need-slice-reshare-prefix-with-program-2
 slice-reshare-prefix-with-program-2 c =
     let s = c .before .before .before .before .before .before .before .before .before .before .before .before .before .before .before .before .before .before .before .before in
@@ -47,7 +37,6 @@ slice-reshare-prefix-with-program-2 c =
     let g = query-right (now (s .args .query)) (q .last .1 .0) (q .last .1 .1 .0) _ (q .ensures) _ _ (c .before .before .t .given .1) in
     omega (arith, g .few, g .paid)
 
--- src/lib.rt:139:13
 slice-aggregate-with-program-2 : tie.Need-slice-aggregate-with-program-2
 slice-aggregate-with-program-2 c =
     let s = c .before .before .before .before .before .before .before .before .before .before .before .before .before .before .before .before .before .before .before .before .before in
@@ -55,7 +44,6 @@ slice-aggregate-with-program-2 c =
     let g = query-right (now (s .args .query)) (q .last .1 .0) (q .last .1 .1 .0) _ (q .ensures) _ _ (c .before .before .before .t .given .1) in
     sym (length-take-le _ _ (omega (arith, g .few, g .paid)))
 
--- src/lib.rt:135:34
 with-program-requires : tie.Need-with-program-requires
 with-program-requires c κs =
     let s = c .before .before .before .before .before .before .before .before .before .before .before .before .before .before .before .before .before .before .before .before .before .before .before .before .before .before in
@@ -64,50 +52,39 @@ with-program-requires c κs =
     let f = query-in (now (s .args .query)) (q .last .1 .0) (q .last .1 .1 .0) _ (q .ensures) _ _ (c .before .before .before .before .before .before .before .before .t .given .1) (omega arith) (omega arith) in
     ((omega arith, omega arith), ((omega arith, omega arith), ((f .few-tokens, f .few-words), ((omega arith, (omega arith, omega arith)), s .pre .1 .1 .1 .1))))
 
--- src/lib.rt:114:1
 same-length : tie.Need-same-length
 same-length c = search needs
 
--- src/lib.rt:114:1
 same-length-2 : tie.Need-same-length-2
 same-length-2 c = search needs
 
--- src/lib.rt:114:1
 returns : tie.Need-returns
 returns c =
     let s = c .before .before .before .before .before .before .before .before .before .before .before .before .before .before .before .before .before .before .before in
     let q = c .before .before .before .before .before .before .before .read-query in
     λ f. query-wrong (now (s .args .facts)) (now (s .args .query)) (now (s .args .relations)) (now (s .args .places)) (s .args .c) f (q .last .1 .0) (q .last .1 .1 .0) _ _ _ _ _ _ (c .before .q .given .1) (q .ensures)
 
--- src/lib.rt:114:1
 same-length-3 : tie.Need-same-length-3
 same-length-3 c = search needs
 
--- src/lib.rt:114:1
 same-length-4 : tie.Need-same-length-4
 same-length-4 c = search needs
 
--- src/lib.rt:114:1
 same-length-5 : tie.Need-same-length-5
 same-length-5 c = search needs
 
--- src/lib.rt:114:1
 same-length-6 : tie.Need-same-length-6
 same-length-6 c = search needs
 
--- src/lib.rt:114:1
 same-length-7 : tie.Need-same-length-7
 same-length-7 c = search needs
 
--- src/lib.rt:114:1
 same-length-8 : tie.Need-same-length-8
 same-length-8 c = search needs
 
--- src/lib.rt:114:1
 same-length-9 : tie.Need-same-length-9
 same-length-9 c = search needs
 
--- src/lib.rt:114:1
 returns-2 : tie.Need-returns-2
 returns-2 c =
     let s = c .before .before .before .before .before .before .before .before .before .before .before .before .before .before .before .before .before .before .before .before .before .before .before .before .before .before .before .before .before .before .before .before .before .before .before .before .before in

@@ -4,41 +4,29 @@ use denote.Ref.{now}
 use Rattle.acceptance.proofs.Accepting.{names-wrong, names-right}
 use Rattle.acceptance.proofs.with_program.Statement.{statement}
 use Rattle.acceptance.proofs.with_program.Tie as tie
-use Rattle.acceptance.proofs.with_program.Reads as reads
-use Rattle.acceptance.proofs.with_program.Lts as lts
-use Rattle.acceptance.proofs.with_names.Reads as with-names-reads
-use Rattle.kinds.proofs.resolve.Reads as resolve-reads
 
--- src/lib.rt:103:11
 resolve-requires : tie.Need-resolve-requires
 resolve-requires c κs = search needs
 
--- src/lib.rt:104:24
 enum-known-q : tie.Need-enum-known-q
 enum-known-q c = search needs
 
--- src/lib.rt:105:21
 enum-known-r : tie.Need-enum-known-r
 enum-known-r c = search needs
 
--- src/lib.rt:105:27
 with-names-requires : tie.Need-with-names-requires
 with-names-requires c κs =
     let s = c .before .before .before .before .before .before .before .before .before .before .before .before .before .before .before .before .before .before .before .before .before .before .before .before .before .before in ((omega arith, omega arith), ((omega arith, omega arith), s .pre .1 .1 .1 .1))
 
--- src/lib.rt:84:1
 same-length : tie.Need-same-length
 same-length c = search needs
 
--- src/lib.rt:84:1
 same-length-2 : tie.Need-same-length-2
 same-length-2 c = search needs
 
--- src/lib.rt:84:1
 same-length-3 : tie.Need-same-length-3
 same-length-3 c = search needs
 
--- src/lib.rt:84:1
 returns : tie.Need-returns
 returns c =
     let s = c .before .before .before .before .before .before .before .before .before .before .before .before .before .before .before .before .before .before .before .before .before .before in
@@ -46,27 +34,21 @@ returns c =
     names-wrong (now (s .args .facts)) (now (s .args .query)) (now (s .args .relations)) (now (s .args .places)) (s .args .c) f (now (s .args .tokens)) (now (s .args .words)) ts p q _ _ _ _ _ _ (c .before .q .given .1)
     (c .before .before .before .before .before .before .before .before .before .resolve .ensures .0)
 
--- src/lib.rt:84:1
 same-length-4 : tie.Need-same-length-4
 same-length-4 c = search needs
 
--- src/lib.rt:84:1
 same-length-5 : tie.Need-same-length-5
 same-length-5 c = search needs
 
--- src/lib.rt:84:1
 same-length-6 : tie.Need-same-length-6
 same-length-6 c = search needs
 
--- src/lib.rt:84:1
 same-length-7 : tie.Need-same-length-7
 same-length-7 c = search needs
 
--- src/lib.rt:84:1
 same-length-8 : tie.Need-same-length-8
 same-length-8 c = search needs
 
--- src/lib.rt:84:1
 returns-2 : tie.Need-returns-2
 returns-2 c =
     let s = c .before .before .before .before .before .before .before .before .before .before .before .before .before .before .before .before .before .before .before .before .before .before .before .before .before .before .before .before .before .before .before in

@@ -4,27 +4,19 @@ use denote.Ref.{now}
 use Rattle.acceptance.proofs.Accepting.{strings-full, strings-in}
 use Rattle.acceptance.proofs.with_rows.Statement.{statement}
 use Rattle.acceptance.proofs.with_rows.Tie as tie
-use Rattle.acceptance.proofs.with_rows.Reads as reads
-use Rattle.acceptance.proofs.with_rows.Lts as lts
-use Rattle.universe.proofs.enter_strings.Reads as enter-strings-reads
 
--- src/lib.rt:48:11
 enter-strings-requires : tie.Need-enter-strings-requires
 enter-strings-requires c κs = search needs
 
--- src/lib.rt:49:23
 enum-known-p : tie.Need-enum-known-p
 enum-known-p c = search needs
 
--- src/lib.rt:50:24
 enum-known-u : tie.Need-enum-known-u
 enum-known-u c = search needs
 
--- src/lib.rt:36:1
 same-length : tie.Need-same-length
 same-length c = search needs
 
--- src/lib.rt:36:1
 returns : tie.Need-returns
 returns c =
     let s = c .before .before .before .before .before .before .before .before .before .before .before .before in
@@ -32,11 +24,9 @@ returns c =
     strings-full (now (s .args .facts)) (now (s .args .query)) given (now (s .args .places)) (s .args .c) f (now (s .args .tokens)) (now (s .args .words)) ts p q ids known relations (s .args .relations) k n right _ _ _ (c .before .p .given .1)
     (c .before .before .before .before .before .enter-strings .ensures ts p (q .parsed))
 
--- src/lib.rt:36:1
 same-length-2 : tie.Need-same-length-2
 same-length-2 c = search needs
 
--- src/lib.rt:36:1
 returns-2 : tie.Need-returns-2
 returns-2 c =
     let s = c .before .before .before .before .before .before .before .before .before .before .before .before in

@@ -2,13 +2,6 @@ use Rattle.actions.proofs.Doings.{assigns}
 use borrow.Author.Needs.{needs}
 use Rattle.actions.proofs.assign_at.Statement.{statement}
 use Rattle.actions.proofs.assign_at.Tie as tie
-use Rattle.actions.proofs.assign_at.Reads as reads
-use Rattle.actions.proofs.assign_at.Lts as lts
-use Rattle.actions.proofs.assign_word.Reads as assign-word-reads
-use Rattle.actions.proofs.clear_closures.Reads as clear-closures-reads
-use Rattle.actions.proofs.start_of.Reads as start-of-reads
-use Rattle.words.proofs.word_at.Reads as word-at-reads
-use Rattle.closures.proofs.fill_closures.Reads as fill-closures-reads
 
 start-of-requires : tie.Need-start-of-requires
 start-of-requires c κs = search needs

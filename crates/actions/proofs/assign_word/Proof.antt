@@ -1,19 +1,10 @@
-use Prim.Native.Nat.{_+_, _≤_}
-use mathlib.Core.Path.{_≡_, refl, sym, ap, _∙_}
+use mathlib.Core.Path.{sym, _∙_}
 use native.Mathlib.Omega.{arith}
 use lib.ListN.{length}
 use Rattle.actions.proofs.Rooms.{assign-wide, assign-short, assign-here, has-place, has-scratch, not-true, not-false}
 use borrow.Author.Needs.{needs}
 use Rattle.actions.proofs.assign_word.Statement.{statement}
 use Rattle.actions.proofs.assign_word.Tie as tie
-use Rattle.actions.proofs.assign_word.Reads as reads
-use Rattle.actions.proofs.assign_word.Lts as lts
-use Rattle.actions.proofs.has_room.Reads as has-room-reads
-use Rattle.actions.proofs.left_side.Reads as left-side-reads
-use Rattle.actions.proofs.root_of.Reads as root-of-reads
-use Rattle.words.proofs.word_at.Reads as word-at-reads
-use Rattle.assignment.proofs.assign.Reads as assign-reads
-use Rattle.tuples.proofs.table_words.Reads as table-words-reads
 
 returns : tie.Need-returns
 returns c =
@@ -32,8 +23,8 @@ returns-2 : tie.Need-returns-2
 returns-2 c =
     let a = c .before .before .before .before .before .before .before .before .before .args in assign-short (a .words .now) (a .firsts .now) (a .u) (a .scr) (a .w) (a .at) (a .vars .now) (a .store .now) (c .before .before .before .before .if1 .left) (c .before .before .before .word-at .ensures) (c .before .before .table-words .ensures) (sym (c .before .has-room .ensures) ∙ not-true (c .before .has-room .result) (c .if2 .taken))
 
-root-of-requires : tie.Need-root-of-requires
-root-of-requires c κs = search needs
+previous-requires : tie.Need-previous-requires
+previous-requires c κs = search needs
 
 left-side-requires : tie.Need-left-side-requires
 left-side-requires c κs = search needs
@@ -52,7 +43,7 @@ returns-3 c =
     let a = c .before .before .before .before .before .before .before .before .before .before .before .before .before .before .before .args in
     let r = (sym (c .before .before .before .before .before .before .before .has-room .ensures) ∙ not-false (c .before .before .before .before .before .before .before .has-room .result) (c .before .before .before .before .before .before .if2 .left)) in
     c .before .before .assign .ensures
-    ∙ assign-here (a .words .now) (a .firsts .now) (a .u) (a .scr) (a .w) (a .at) (a .vars .now) (a .store .now) (c .before .before .before .before .before .before .before .before .before .before .if1 .left) (c .before .before .before .before .before .before .before .before .before .word-at .ensures) (c .before .before .before .before .before .before .before .before .table-words .ensures) (c .before .before .before .before .before .root-of .result) (c .before .before .before .left-side .result) (c .before .before .before .before .before .root-of .ensures) (c .before .before .before .left-side .ensures) r
+    ∙ assign-here (a .words .now) (a .firsts .now) (a .u) (a .scr) (a .w) (a .at) (a .vars .now) (a .store .now) (c .before .before .before .before .before .before .before .before .before .before .if1 .left) (c .before .before .before .before .before .before .before .before .before .word-at .ensures) (c .before .before .before .before .before .before .before .before .table-words .ensures) (c .before .before .before .before .before .previous .result) (c .before .before .before .left-side .result) (c .before .before .before .before .before .previous .ensures) (c .before .before .before .left-side .ensures) r
 
 pub assign-word-spec : {M : Type 1} → statement M
 assign-word-spec =
@@ -63,7 +54,7 @@ assign-word-spec =
     table-words-requires
     has-room-requires
     returns-2
-    root-of-requires
+    previous-requires
     left-side-requires
     assign-requires
     same-length

@@ -6,9 +6,6 @@ use Rattle.actions.specs.Parts.{clear-words}
 use Rattle.actions.proofs.Parts.{clear-none, clear-next}
 use Rattle.actions.proofs.clear_closures.Statement.{statement}
 use Rattle.actions.proofs.clear_closures.Tie as tie
-use Rattle.actions.proofs.clear_closures.Reads as reads
-use Rattle.actions.proofs.clear_closures.Lts as lts
-use Rattle.actions.proofs.clear_word.Reads as clear-word-reads
 
 abbrev Inv-loop : tie.InvT-loop
 Inv-loop nodes store₀ firsts u lo hi k₀ store k = (length store ≡ length store₀) × (clear-words firsts u nodes (hi - k) k store ≡ clear-words firsts u nodes (hi - lo) lo store₀)

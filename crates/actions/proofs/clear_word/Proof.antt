@@ -1,16 +1,12 @@
 use Prim.Native.Nat.{_+_, _≤_}
 use lib.ListN.{length}
-use mathlib.Core.Path.{_≡_, refl, sym, ap, _∙_}
+use mathlib.Core.Path.{_∙_}
 use native.Mathlib.Omega.{arith}
 use native.Mathlib.Nat.{add-sub-cancel-left}
 use Rattle.actions.proofs.Parts.{clear-other, clear-short, clear-here, cleared-part}
 use borrow.Author.Needs.{needs}
 use Rattle.actions.proofs.clear_word.Statement.{statement}
 use Rattle.actions.proofs.clear_word.Tie as tie
-use Rattle.actions.proofs.clear_word.Reads as reads
-use Rattle.actions.proofs.clear_word.Lts as lts
-use Rattle.words.proofs.word_at.Reads as word-at-reads
-use Rattle.scratch.proofs.clear.Reads as clear-reads
 
 word-at-requires : tie.Need-word-at-requires
 word-at-requires c κs = search needs

@@ -2,8 +2,6 @@ use native.Mathlib.Omega.{arith}
 use Rattle.actions.proofs.Rooms.{no-place, no-scratch, scratch-room}
 use Rattle.actions.proofs.has_room.Statement.{statement}
 use Rattle.actions.proofs.has_room.Tie as tie
-use Rattle.actions.proofs.has_room.Reads as reads
-use Rattle.actions.proofs.has_room.Lts as lts
 
 returns : tie.Need-returns
 returns c = let a = c .before .args in no-place (a .off) (a .len) (a .scr) (a .total) (omega arith)

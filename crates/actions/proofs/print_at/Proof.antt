@@ -3,12 +3,6 @@ use Rattle.actions.proofs.Doings.{leaves, prints}
 use borrow.Author.Needs.{needs}
 use Rattle.actions.proofs.print_at.Statement.{statement}
 use Rattle.actions.proofs.print_at.Tie as tie
-use Rattle.actions.proofs.print_at.Reads as reads
-use Rattle.actions.proofs.print_at.Lts as lts
-use Rattle.actions.proofs.clear_closures.Reads as clear-closures-reads
-use Rattle.actions.proofs.start_of.Reads as start-of-reads
-use Rattle.closures.proofs.fill_closures.Reads as fill-closures-reads
-use Rattle.prints.proofs.print.Reads as print-reads
 
 start-of-requires : tie.Need-start-of-requires
 start-of-requires c κs = search needs

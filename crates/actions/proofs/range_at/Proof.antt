@@ -2,14 +2,6 @@ use Rattle.actions.proofs.Doings.{leaves, ranges}
 use borrow.Author.Needs.{needs}
 use Rattle.actions.proofs.range_at.Statement.{statement}
 use Rattle.actions.proofs.range_at.Tie as tie
-use Rattle.actions.proofs.range_at.Reads as reads
-use Rattle.actions.proofs.range_at.Lts as lts
-use Rattle.actions.proofs.clear_closures.Reads as clear-closures-reads
-use Rattle.actions.proofs.root_of.Reads as root-of-reads
-use Rattle.actions.proofs.start_of.Reads as start-of-reads
-use Rattle.words.proofs.word_at.Reads as word-at-reads
-use Rattle.closures.proofs.fill_closures.Reads as fill-closures-reads
-use Rattle.eval.proofs.row.Reads as row-reads
 
 start-of-requires : tie.Need-start-of-requires
 start-of-requires c κs = search needs
@@ -23,8 +15,8 @@ cast-slot c = search needs
 fill-closures-requires : tie.Need-fill-closures-requires
 fill-closures-requires c κs = search needs
 
-root-of-requires : tie.Need-root-of-requires
-root-of-requires c κs = search needs
+previous-requires : tie.Need-previous-requires
+previous-requires c κs = search needs
 
 row-requires : tie.Need-row-requires
 row-requires c κs = search needs
@@ -38,7 +30,7 @@ same-length c = search needs
 returns : tie.Need-returns
 returns c =
     let a = c .before .before .before .before .before .before .before .before .before .before .before .before .before .before .before .before .before .args in
-    (ranges (a .words .now) (a .firsts .now) (a .u) (a .vars .now) (a .store .now) (a .at) (c .before .before .before .before .before .before .before .before .before .before .before .before .start-of .result) (c .before .before .before .before .before .before .before .before .before .before .before .before .start-of .ensures .0) _ (c .before .before .before .before .before .before .before .before .before .fill-closures .ensures) _ (c .before .before .before .before .before .root-of .ensures) _ _ (c .before .before .before .before .before .before .before .before .before .before .before .word-at .ensures) (c .before .before .before .before .row .ensures), leaves (a .words .now) (a .firsts .now) (a .u) (a .vars .now) (a .store .now) (a .at) (c .before .before .before .before .before .before .before .before .before .before .before .before .start-of .result) (c .before .before .before .before .before .before .before .before .before .before .before .before .start-of .ensures .0) _ (c .before .before .before .before .before .before .before .before .before .fill-closures .ensures) _ (c .before .before .clear-closures .ensures))
+    (ranges (a .words .now) (a .firsts .now) (a .u) (a .vars .now) (a .store .now) (a .at) (c .before .before .before .before .before .before .before .before .before .before .before .before .start-of .result) (c .before .before .before .before .before .before .before .before .before .before .before .before .start-of .ensures .0) _ (c .before .before .before .before .before .before .before .before .before .fill-closures .ensures) _ (c .before .before .before .before .before .previous .ensures) _ _ (c .before .before .before .before .before .before .before .before .before .before .before .word-at .ensures) (c .before .before .before .before .row .ensures), leaves (a .words .now) (a .firsts .now) (a .u) (a .vars .now) (a .store .now) (a .at) (c .before .before .before .before .before .before .before .before .before .before .before .before .start-of .result) (c .before .before .before .before .before .before .before .before .before .before .before .before .start-of .ensures .0) _ (c .before .before .before .before .before .before .before .before .before .fill-closures .ensures) _ (c .before .before .clear-closures .ensures))
 
 pub range-at-spec : {M : Type 1} → statement M
 range-at-spec =
@@ -48,7 +40,7 @@ range-at-spec =
     word-at-requires
     cast-slot
     fill-closures-requires
-    root-of-requires
+    previous-requires
     row-requires
     clear-closures-requires
     same-length

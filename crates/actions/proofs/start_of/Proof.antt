@@ -1,4 +1,4 @@
-use Prim.Native.Nat.{ℕ, _≤_}
+use Prim.Native.Nat.{_≤_}
 use mathlib.Core.Path.{_≡_, refl, sym, ap, _∙_}
 use native.Mathlib.Omega.{arith}
 use borrow.Author.Needs.{needs}
@@ -7,10 +7,6 @@ use Rattle.actions.specs.Parts.{is-statement, start}
 use Rattle.actions.proofs.Parts.{start-none, start-here, start-back}
 use Rattle.actions.proofs.start_of.Statement.{statement}
 use Rattle.actions.proofs.start_of.Tie as tie
-use Rattle.actions.proofs.start_of.Reads as reads
-use Rattle.actions.proofs.start_of.Lts as lts
-use Rattle.actions.proofs.statement.Reads as statement-reads
-use Rattle.words.proofs.word_at.Reads as word-at-reads
 
 abbrev Inv-loop : tie.InvT-loop
 Inv-loop words at n₀ n = (n ≤ at) × (start words n ≡ start words at)

@@ -3,8 +3,6 @@ use Rattle.actions.specs.Parts.{is-statement}
 use Rattle.actions.proofs.Parts.{no-statement}
 use Rattle.actions.proofs.statement.Statement.{statement}
 use Rattle.actions.proofs.statement.Tie as tie
-use Rattle.actions.proofs.statement.Reads as reads
-use Rattle.actions.proofs.statement.Lts as lts
 
 returns : tie.Need-returns
 unfolding is-statement

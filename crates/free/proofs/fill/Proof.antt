@@ -3,7 +3,7 @@ use Rattle.free.specs.Words.{Filled, Small}
 use Rattle.slots.specs.Slots.{digit-at}
 use lib.ListN.{length, length-set}
 use mathlib.Core.Path.{_≡_, refl}
-use Prim.Native.Nat.{ℕ, _≤_, _-_}
+use Prim.Native.Nat.{_≤_, _-_}
 use native.Mathlib.Omega.{arith}
 use Rattle.free.proofs.fill.Statement.{statement}
 use Rattle.free.proofs.fill.Tie as tie

@@ -1,5 +1,5 @@
 use Rattle.free.specs.Words.{is-leaf}
-use borrow.Author.Tests.{eq-eqb, ne-eqb, lt-ltb, le-ltb, le-leb, lt-leb}
+use borrow.Author.Tests.{eq-eqb, ne-eqb}
 use Rattle.free.proofs.is_leaf.Statement.{statement}
 use Rattle.free.proofs.is_leaf.Tie as tie
 

@@ -8,10 +8,10 @@ add-result : tie.Need-add-result
 add-result c = search needs
 
 returns : tie.Need-returns
-returns c = simp (eq-eqb _ _ (c .if1 .taken))
+returns c = (simp (eq-eqb _ _ (c .if1 .taken)), omega arith)
 
 returns-2 : tie.Need-returns-2
-returns-2 c = simp (ne-eqb _ _ (c .if1 .left)) (omega arith)
+returns-2 c = (simp (ne-eqb _ _ (c .if1 .left)) (omega arith), omega arith)
 
 pub start-spec : {M : Type 1} → statement M
 start-spec = tie.close (tie.spec add-result returns returns-2)

@@ -11,7 +11,7 @@ part-requires : tie.Need-part-requires
 part-requires c κs = search needs
 
 returns : tie.Need-returns
-returns c = c .part .ensures ∙ text-part _ (c .before .before .before .args .w) _ (c .before .start .ensures)
+returns c = c .part .ensures ∙ text-part _ (c .before .before .before .args .w) _ (c .before .start .ensures .0)
 
 pub text-at-spec : {M : Type 1} → statement M
 text-at-spec = tie.close (tie.spec start-requires part-requires returns)

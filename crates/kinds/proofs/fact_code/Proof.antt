@@ -1,5 +1,5 @@
 use Rattle.kinds.specs.Resolved.{fact-code}
-use borrow.Author.Tests.{eq-eqb, ne-eqb, lt-ltb, le-ltb, le-leb, lt-leb}
+use borrow.Author.Tests.{lt-ltb, le-ltb}
 use borrow.Author.Needs.{needs}
 use Rattle.kinds.proofs.fact_code.Statement.{statement}
 use Rattle.kinds.proofs.fact_code.Tie as tie

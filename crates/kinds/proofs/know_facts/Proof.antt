@@ -2,7 +2,7 @@ use Rattle.kinds.specs.Resolved.{fact-code, FactsKnown}
 use Rattle.intern.proofs.Numbering.{filled}
 use lib.ListN.{length, length-set}
 use mathlib.Core.Path.{_≡_, refl}
-use Prim.Native.Nat.{ℕ, _≤_, _-_}
+use Prim.Native.Nat.{_≤_, _-_}
 use native.Mathlib.Omega.{arith}
 use Rattle.kinds.proofs.know_facts.Statement.{statement}
 use Rattle.kinds.proofs.know_facts.Tie as tie

@@ -1,8 +1,8 @@
 use Rattle.kinds.proofs.Steps.{walk-stops, walk-goes, walk-end}
 use Rattle.kinds.specs.Walk.{walk, state}
 use lib.ListN.{length, drop}
-use mathlib.Core.Path.{_≡_, sym, _∙_, refl}
-use Prim.Native.Nat.{ℕ, _≤_, _-_}
+use mathlib.Core.Path.{_≡_, _∙_, refl}
+use Prim.Native.Nat.{_≤_, _-_}
 use native.Mathlib.Omega.{arith}
 use borrow.Author.Needs.{needs}
 use Rattle.kinds.proofs.use_all.Statement.{statement}

@@ -1,5 +1,4 @@
-use mathlib.Core.Path.{refl}
-use native.Mathlib.Omega.{arith}
+use mathlib.Core.Path.{_∙_, refl}
 use Rattle.lowering.specs.Lowering.{operands-at}
 use borrow.Author.Needs.{needs}
 use Rattle.lowering.proofs.operands_at.Statement.{statement}
@@ -38,27 +37,12 @@ word-at-requires-4 c κs = search needs
 term-byte-requires-4 : tie.Need-term-byte-requires-4
 term-byte-requires-4 c κs = search needs
 
-mul-result : tie.Need-mul-result
-mul-result c = search needs
-
-add-result : tie.Need-add-result
-add-result c = search needs
-
-mul-result-2 : tie.Need-mul-result-2
-mul-result-2 c = search needs
-
-add-result-2 : tie.Need-add-result-2
-add-result-2 c = search needs
-
-mul-result-3 : tie.Need-mul-result-3
-mul-result-3 c = search needs
-
-add-result-3 : tie.Need-add-result-3
-add-result-3 c = search needs
+four-bytes-requires : tie.Need-four-bytes-requires
+four-bytes-requires c κs = search needs
 
 returns : tie.Need-returns
 unfolding operands-at
-returns c = (rw (c .term-byte4 .ensures .0, c .before .before .term-byte3 .ensures .0, c .before .before .before .before .term-byte2 .ensures .0, c .before .before .before .before .before .before .term-byte .ensures .0, c .before .word-at4 .ensures, c .before .before .before .word-at3 .ensures, c .before .before .before .before .before .word-at2 .ensures, c .before .before .before .before .before .before .before .word-at .ensures) refl, omega arith)
+returns c = (c .four-bytes .ensures .0 ∙ rw (c .before .term-byte4 .ensures .0, c .before .before .before .term-byte3 .ensures .0, c .before .before .before .before .before .term-byte2 .ensures .0, c .before .before .before .before .before .before .before .term-byte .ensures .0, c .before .before .word-at4 .ensures, c .before .before .before .before .word-at3 .ensures, c .before .before .before .before .before .before .word-at2 .ensures, c .before .before .before .before .before .before .before .before .word-at .ensures) refl, c .four-bytes .ensures .1)
 
 pub operands-at-spec : {M : Type 1} → statement M
 operands-at-spec =
@@ -75,10 +59,5 @@ operands-at-spec =
     add-word-at-3
     word-at-requires-4
     term-byte-requires-4
-    mul-result
-    add-result
-    mul-result-2
-    add-result-2
-    mul-result-3
-    add-result-3
+    four-bytes-requires
     returns)

@@ -44,12 +44,12 @@ returns-5 c = (rw (le-ltb _ _ (c .before .before .before .before .before .if1 .l
 word-at-requires-4 : tie.Need-word-at-requires-4
 word-at-requires-4 c κs = search needs
 
-first-byte-requires : tie.Need-first-byte-requires
-first-byte-requires c κs = search needs
+start-requires : tie.Need-start-requires
+start-requires c κs = search needs
 
 returns-6 : tie.Need-returns-6
 unfolding p-field
-returns-6 c = (rw (le-ltb _ _ (c .before .before .before .before .before .before .if1 .left), le-ltb _ _ (c .before .before .before .before .before .if2 .left), ne-eqb _ _ (c .before .before .before .before .if3 .left), le-ltb _ _ (c .before .before .before .if4 .left), le-ltb _ _ (c .before .before .if5 .left)) (c .first-byte .ensures .0 ∙ rw (c .before .word-at4 .ensures) refl), c .first-byte .ensures .1)
+returns-6 c = (rw (le-ltb _ _ (c .before .before .before .before .before .before .if1 .left), le-ltb _ _ (c .before .before .before .before .before .if2 .left), ne-eqb _ _ (c .before .before .before .before .if3 .left), le-ltb _ _ (c .before .before .before .if4 .left), le-ltb _ _ (c .before .before .if5 .left)) (rw (c .start .ensures .0, c .before .word-at4 .ensures) refl), omega arith)
 
 pub p-field-spec : {M : Type 1} → statement M
 p-field-spec =
@@ -66,5 +66,5 @@ p-field-spec =
     word-at-requires-3
     returns-5
     word-at-requires-4
-    first-byte-requires
+    start-requires
     returns-6)

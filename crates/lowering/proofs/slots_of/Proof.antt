@@ -1,5 +1,4 @@
-use mathlib.Core.Path.{refl}
-use native.Mathlib.Omega.{arith}
+use mathlib.Core.Path.{_∙_, refl}
 use Rattle.lowering.specs.Lowering.{slots-of}
 use borrow.Author.Needs.{needs}
 use Rattle.lowering.proofs.slots_of.Statement.{statement}
@@ -17,27 +16,12 @@ slot-of-requires-3 c κs = search needs
 slot-of-requires-4 : tie.Need-slot-of-requires-4
 slot-of-requires-4 c κs = search needs
 
-mul-result : tie.Need-mul-result
-mul-result c = search needs
-
-add-result : tie.Need-add-result
-add-result c = search needs
-
-mul-result-2 : tie.Need-mul-result-2
-mul-result-2 c = search needs
-
-add-result-2 : tie.Need-add-result-2
-add-result-2 c = search needs
-
-mul-result-3 : tie.Need-mul-result-3
-mul-result-3 c = search needs
-
-add-result-3 : tie.Need-add-result-3
-add-result-3 c = search needs
+four-bytes-requires : tie.Need-four-bytes-requires
+four-bytes-requires c κs = search needs
 
 returns : tie.Need-returns
 unfolding slots-of
-returns c = (rw (c .slot-of4 .ensures .0, c .before .slot-of3 .ensures .0, c .before .before .slot-of2 .ensures .0, c .before .before .before .slot-of .ensures .0) refl, omega arith)
+returns c = (c .four-bytes .ensures .0 ∙ rw (c .before .slot-of4 .ensures .0, c .before .before .slot-of3 .ensures .0, c .before .before .before .slot-of2 .ensures .0, c .before .before .before .before .slot-of .ensures .0) refl, c .four-bytes .ensures .1)
 
 pub slots-of-spec : {M : Type 1} → statement M
 slots-of-spec =
@@ -47,10 +31,5 @@ slots-of-spec =
     slot-of-requires-2
     slot-of-requires-3
     slot-of-requires-4
-    mul-result
-    add-result
-    mul-result-2
-    add-result-2
-    mul-result-3
-    add-result-3
+    four-bytes-requires
     returns)

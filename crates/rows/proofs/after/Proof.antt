@@ -1,4 +1,3 @@
-use mathlib.Core.Path.{sym}
 use borrow.Author.Needs.{needs}
 use Rattle.rows.proofs.after.Statement.{statement}
 use Rattle.rows.proofs.after.Tie as tie

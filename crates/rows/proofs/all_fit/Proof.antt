@@ -2,9 +2,9 @@ use Rattle.rows.proofs.Loops.{fit-no, fit-yes, fit-end}
 use Rattle.rows.specs.Tests.{all-fit}
 use Rattle.free.specs.Words.{at}
 use lib.ListN.{length, drop}
-use mathlib.Core.Path.{_≡_, ap, refl, sym, _∙_}
-use Prim.Native.Nat.{ℕ, _+_, _≤_, _-_}
-use borrow.Author.Tests.{eq-eqb, ne-eqb, lt-ltb, le-ltb, not-true, not-false}
+use mathlib.Core.Path.{_≡_, ap}
+use Prim.Native.Nat.{_+_, _≤_, _-_}
+use borrow.Author.Tests.{not-true, not-false}
 use native.Mathlib.Omega.{arith}
 use Rattle.rows.proofs.all_fit.Statement.{statement}
 use Rattle.rows.proofs.all_fit.Tie as tie

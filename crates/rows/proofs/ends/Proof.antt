@@ -1,39 +1,42 @@
+use mathlib.Core.Path.{refl}
+use borrow.Author.Tests.{ne-eqb}
 use Rattle.words.specs.Parts.{ends}
-use borrow.Author.Tests.{eq-eqb, ne-eqb, lt-ltb, le-ltb, le-leb, lt-leb}
 use Rattle.rows.proofs.ends.Statement.{statement}
 use Rattle.rows.proofs.ends.Tie as tie
 
 returns : tie.Need-returns
 unfolding ends
-returns c = simp (eq-eqb _ _ (c .if1 .taken))
+returns c = rw (c .match .keys1) refl
 
 returns-2 : tie.Need-returns-2
 unfolding ends
-returns-2 c = simp (ne-eqb _ _ (c .before .if1 .left), eq-eqb _ _ (c .if2 .taken))
+returns-2 c = rw (c .match .keys2) refl
 
 returns-3 : tie.Need-returns-3
 unfolding ends
-returns-3 c = simp (ne-eqb _ _ (c .before .before .if1 .left), ne-eqb _ _ (c .before .if2 .left), eq-eqb _ _ (c .if3 .taken))
+returns-3 c = rw (c .match .keys3) refl
 
 returns-4 : tie.Need-returns-4
 unfolding ends
-returns-4 c = simp (ne-eqb _ _ (c .before .before .before .if1 .left), ne-eqb _ _ (c .before .before .if2 .left), ne-eqb _ _ (c .before .if3 .left), eq-eqb _ _ (c .if4 .taken))
+returns-4 c = rw (c .match .keys4) refl
 
 returns-5 : tie.Need-returns-5
 unfolding ends
-returns-5 c = simp (ne-eqb _ _ (c .before .before .before .before .if1 .left), ne-eqb _ _ (c .before .before .before .if2 .left), ne-eqb _ _ (c .before .before .if3 .left), ne-eqb _ _ (c .before .if4 .left), eq-eqb _ _ (c .if5 .taken))
+returns-5 c = rw (c .match .keys5) refl
 
 returns-6 : tie.Need-returns-6
 unfolding ends
-returns-6 c = simp (ne-eqb _ _ (c .before .before .before .before .before .if1 .left), ne-eqb _ _ (c .before .before .before .before .if2 .left), ne-eqb _ _ (c .before .before .before .if3 .left), ne-eqb _ _ (c .before .before .if4 .left), ne-eqb _ _ (c .before .if5 .left), eq-eqb _ _ (c .if6 .taken))
+returns-6 c = rw (c .match .keys6) refl
 
 returns-7 : tie.Need-returns-7
 unfolding ends
-returns-7 c = simp (ne-eqb _ _ (c .before .before .before .before .before .before .if1 .left), ne-eqb _ _ (c .before .before .before .before .before .if2 .left), ne-eqb _ _ (c .before .before .before .before .if3 .left), ne-eqb _ _ (c .before .before .before .if4 .left), ne-eqb _ _ (c .before .before .if5 .left), ne-eqb _ _ (c .before .if6 .left), eq-eqb _ _ (c .if7 .taken))
+returns-7 c = rw (c .match .keys7) refl
 
 returns-8 : tie.Need-returns-8
 unfolding ends
-returns-8 c = simp (ne-eqb _ _ (c .before .before .before .before .before .before .if1 .left), ne-eqb _ _ (c .before .before .before .before .before .if2 .left), ne-eqb _ _ (c .before .before .before .before .if3 .left), ne-eqb _ _ (c .before .before .before .if4 .left), ne-eqb _ _ (c .before .before .if5 .left), ne-eqb _ _ (c .before .if6 .left), ne-eqb _ _ (c .if7 .left))
+returns-8 c =
+    let z = c .match .rest in
+    simp (ne-eqb _ _ (z .0 .0 .0 .0 .0 .0 .1), ne-eqb _ _ (z .0 .0 .0 .0 .0 .1), ne-eqb _ _ (z .0 .0 .0 .0 .1), ne-eqb _ _ (z .0 .0 .0 .1), ne-eqb _ _ (z .0 .0 .1), ne-eqb _ _ (z .0 .1), ne-eqb _ _ (z .1))
 
 pub ends-spec : {M : Type 1} → statement M
 ends-spec =

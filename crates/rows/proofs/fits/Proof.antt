@@ -1,8 +1,7 @@
 use Rattle.rows.proofs.Loops.{fits-closure, fits-rows}
 use Rattle.free.specs.Words.{at}
 use Rattle.rows.specs.Tests.{fits}
-use mathlib.Core.Path.{refl, sym, _∙_}
-use borrow.Author.Tests.{eq-eqb, ne-eqb, lt-ltb, le-ltb, not-true, not-false}
+use borrow.Author.Tests.{ne-eqb}
 use borrow.Author.Needs.{needs}
 use Rattle.rows.proofs.fits.Statement.{statement}
 use Rattle.rows.proofs.fits.Tie as tie
@@ -17,15 +16,15 @@ returns : tie.Need-returns
 unfolding fits
 returns c = fits-closure (at (c .before .before .before .before .args .fr .now)) _ (c .before .before .before .before .args .w) _ _ (c .count .ensures) (c .before .before .if1 .taken) (c .before .word-at .ensures)
 
-before-requires : tie.Need-before-requires
-before-requires c κs = search needs
+word-before-requires : tie.Need-word-before-requires
+word-before-requires c κs = search needs
 
 count-requires-2 : tie.Need-count-requires-2
 count-requires-2 c κs = search needs
 
 returns-2 : tie.Need-returns-2
 unfolding fits
-returns-2 c = fits-rows (at (c .before .before .before .before .before .args .fr .now)) (c .before .before .before .before .before .args .j) (c .before .before .before .before .before .args .w) _ _ (c .count2 .ensures) (c .before .before .before .if1 .left) (c .before .before .if2 .taken) (c .before .before2 .ensures)
+returns-2 c = fits-rows (at (c .before .before .before .before .before .args .fr .now)) (c .before .before .before .before .before .args .j) (c .before .before .before .before .before .args .w) _ _ (c .count2 .ensures) (c .before .before .before .if1 .left) (c .before .before .if2 .taken) (c .before .word-before .ensures)
 
 returns-3 : tie.Need-returns-3
 unfolding fits
@@ -38,7 +37,7 @@ fits-spec =
     word-at-requires
     count-requires
     returns
-    before-requires
+    word-before-requires
     count-requires-2
     returns-2
     returns-3)

@@ -2,8 +2,8 @@ use Rattle.rows.proofs.Loops.{left-start, left-on, left-end}
 use Rattle.rows.specs.Tests.{left-from}
 use Rattle.free.specs.Words.{at}
 use Rattle.slots.specs.Slots.{digit-at}
-use mathlib.Core.Path.{_≡_, ap, ap₂, refl, sym, _∙_}
-use Prim.Native.Nat.{ℕ, _+_, _≤_, _<_, _-_}
+use mathlib.Core.Path.{_≡_, ap, _∙_}
+use Prim.Native.Nat.{_+_, _≤_, _<_, _-_}
 use native.Mathlib.Omega.{arith}
 use Rattle.rows.proofs.left.Statement.{statement}
 use Rattle.rows.proofs.left.Tie as tie

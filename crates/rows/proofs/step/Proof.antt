@@ -1,5 +1,4 @@
 use Rattle.rows.proofs.AllStatements.{turn-none, turn-between, turn-own, near-next}
-use mathlib.Core.Path.{sym}
 use native.Mathlib.Omega.{arith}
 use borrow.Author.Needs.{needs}
 use Rattle.rows.proofs.step.Statement.{statement}

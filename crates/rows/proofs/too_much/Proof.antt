@@ -1,7 +1,7 @@
 use Rattle.rows.specs.Tests.{too-much}
-use mathlib.Core.Path.{sym, ap, _∙_}
+use mathlib.Core.Path.{ap}
 use lib.Dec.{ltb}
-use borrow.Author.Tests.{eq-eqb, ne-eqb, lt-ltb, le-ltb, le-leb, lt-leb}
+use borrow.Author.Tests.{lt-ltb, le-ltb}
 use borrow.Author.Needs.{needs}
 use Rattle.rows.proofs.too_much.Statement.{statement}
 use Rattle.rows.proofs.too_much.Tie as tie

@@ -1,5 +1,5 @@
 use Rattle.slots.proofs.Arrays.{same-over, same-had, now-over, one-more}
-use mathlib.Core.Path.{_≡_, refl}
+use mathlib.Core.Path.{refl}
 use native.Mathlib.Omega.{arith}
 use borrow.Author.Needs.{needs}
 use Rattle.slots.proofs.add_name.Statement.{statement}

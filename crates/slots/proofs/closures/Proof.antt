@@ -2,7 +2,7 @@ use Rattle.slots.proofs.Arrays.{count-on, count-end}
 use Rattle.slots.specs.Slots.{closure-count}
 use lib.ListN.{length, drop}
 use mathlib.Core.Path.{_≡_}
-use Prim.Native.Nat.{ℕ, _+_, _≤_, _-_}
+use Prim.Native.Nat.{_+_, _≤_, _-_}
 use native.Mathlib.Omega.{arith}
 use Rattle.slots.proofs.closures.Statement.{statement}
 use Rattle.slots.proofs.closures.Tie as tie

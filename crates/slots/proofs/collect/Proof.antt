@@ -1,9 +1,9 @@
 use Rattle.slots.proofs.Arrays.{Going, going-on, going-end}
-use Rattle.slots.specs.Slots.{names-of, Holds, fits}
+use Rattle.slots.specs.Slots.{names-of, fits}
 use lib.ListN.{length}
 use mathlib.Core.List.{[]}
-use mathlib.Core.Path.{_≡_, refl}
-use Prim.Native.Nat.{ℕ, _≤_, _-_}
+use mathlib.Core.Path.{refl}
+use Prim.Native.Nat.{_≤_, _-_}
 use native.Mathlib.Omega.{arith}
 use Rattle.slots.proofs.collect.Statement.{statement}
 use Rattle.slots.proofs.collect.Tie as tie

@@ -1,5 +1,4 @@
 use Rattle.slots.proofs.Arrays.{digit-none, digit-some}
-use mathlib.Core.Path.{_≡_, sym, _∙_}
 use native.Mathlib.Omega.{arith}
 use borrow.Author.Tests.{not-true, not-false}
 use borrow.Author.Needs.{needs}

@@ -1,5 +1,5 @@
 use Rattle.slots.specs.Slots.{of-loop}
-use borrow.Author.Tests.{eq-eqb, ne-eqb, lt-ltb, le-ltb, le-leb, lt-leb}
+use borrow.Author.Tests.{eq-eqb, ne-eqb}
 use Rattle.slots.proofs.of_loop.Statement.{statement}
 use Rattle.slots.proofs.of_loop.Tie as tie
 

@@ -1,6 +1,6 @@
 use Rattle.slots.specs.Slots.{one-closure}
 use native.Mathlib.Omega.{arith}
-use borrow.Author.Tests.{eq-eqb, ne-eqb, lt-ltb, le-ltb, le-leb, lt-leb}
+use borrow.Author.Tests.{eq-eqb, ne-eqb}
 use Rattle.slots.proofs.one_closure.Statement.{statement}
 use Rattle.slots.proofs.one_closure.Tie as tie
 

@@ -1,8 +1,8 @@
 use Rattle.slots.proofs.Arrays.{place-hit, place-miss, place-end}
 use Rattle.slots.specs.Slots.{place-from}
 use lib.ListN.{length, take, drop}
-use mathlib.Core.Path.{_≡_, refl, sym, _∙_}
-use Prim.Native.Nat.{ℕ, _+_, _≤_, _-_}
+use mathlib.Core.Path.{_≡_, refl}
+use Prim.Native.Nat.{_≤_, _-_}
 use native.Mathlib.Omega.{arith}
 use Rattle.slots.proofs.place.Statement.{statement}
 use Rattle.slots.proofs.place.Tie as tie

@@ -1,5 +1,5 @@
 use Rattle.slots.specs.Slots.{takes}
-use borrow.Author.Tests.{eq-eqb, ne-eqb, lt-ltb, le-ltb, le-leb, lt-leb}
+use borrow.Author.Tests.{eq-eqb, ne-eqb}
 use Rattle.slots.proofs.takes.Statement.{statement}
 use Rattle.slots.proofs.takes.Tie as tie
 

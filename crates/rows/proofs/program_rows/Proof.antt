@@ -4,12 +4,12 @@ use Rattle.free.specs.Words.{Small}
 use Rattle.words.specs.Parts.{parts}
 use Rattle.definition.specs.Answer.{Answer}
 use lib.ListN.{length, drop}
-use mathlib.Core.Path.{_≡_, refl, sym, _∙_}
-use Prim.Native.Nat.{ℕ, _≤_, _-_}
+use mathlib.Core.Path.{_≡_, refl}
+use Prim.Native.Nat.{_≤_, _-_}
 use borrow.Author.Needs.{needs}
 use native.Mathlib.Omega.{arith}
-use Rattle.rows.proofs.check.Statement.{statement}
-use Rattle.rows.proofs.check.Tie as tie
+use Rattle.rows.proofs.program_rows.Statement.{statement}
+use Rattle.rows.proofs.program_rows.Tie as tie
 
 abbrev Inv-loop : tie.InvT-loop
 Inv-loop words ids known fr₀ s₀ k₀ fr s k =
@@ -63,8 +63,8 @@ returns-2 c =
     let l = c .before .loop in
     λ S p o e. rows-end (c .before .before .before .before .before .before .args .words .now) (c .before .before .before .before .before .before .args .ids .now) (c .before .before .before .before .before .before .args .known .now) S (l .s) (l .k) _ (c .loop-test .left) (l .inv .4 S _ (all-parts (c .before .before .before .before .before .before .args .words .now) (c .before .before .before .before .before .before .args .ids .now) (c .before .before .before .before .before .before .args .known .now) S p o e))
 
-pub check-spec : {M : Type 1} → statement M
-check-spec =
+pub program-rows-spec : {M : Type 1} → statement M
+program-rows-spec =
     tie.close
     (tie.spec
     Inv-loop
