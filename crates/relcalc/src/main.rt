@@ -1,9 +1,8 @@
 // Reads facts.rsf and query.rml in its working directory, runs the query and prints the page, then how the run ended.
 ghost use Prim.Native.Nat.{_≤_};
 ghost use lib.ListN.{length};
-use definition::Ending;
-use definition::Ran;
-use definition::Refusal;
+ghost use Rattle.page.specs.Closing.{LINE-BYTES};
+ghost use Rattle.relcalc.specs.Prints.{Prints};
 use libc::STDOUT_FILENO;
 
 // Reads a file into buf as far as it fits, and answers the count. A file that can't be opened counts as empty.
@@ -19,43 +18,27 @@ fn read_file(path: &[u8], buf: &mut [u8]) -> usize
     n
 }
 
-// Prints a word and a number.
-fn print_pair(word: &[u8], a: u64) {
-    io::write_all(STDOUT_FILENO, word);
-    io::print_decimal(STDOUT_FILENO, a);
+// What is printed: so many bytes of the output, then so many of the line.
+struct Printed {
+    output: usize,
+    line: usize,
 }
 
-// Prints the first n bytes of the output.
-fn print_page(output: &[u8], n: usize) {
-    if n <= output.len() {
-        io::write_all(STDOUT_FILENO, &output[..n]);
-    }
-}
-
-fn print_ending(ending: Ending, steps: u32) {
-    match ending {
-        Ending::Done => print_pair(b"done ", steps as u64),
-        Ending::Spent => print_pair(b"spent ", steps as u64),
-        Ending::Full => print_pair(b"full ", steps as u64),
-    }
-}
-
-fn print_refusal(q: Refusal) {
-    print_pair(b"refused ", answers::number(q) as u64);
-    print_pair(b" ", answers::place(q) as u64);
-}
-
-// Prints the page and how the run ended, or why it was refused.
-fn print_run(r: Ran, output: &[u8]) {
-    match r {
-        Ran::Ended(s) => {
-            let ending = s.ending;
-            print_page(output, s.written);
-            print_ending(ending, s.steps);
-        }
-        Ran::Refused(q) => print_refusal(q),
-    }
-    io::write_all(STDOUT_FILENO, b"\n");
+// Runs the query over the facts, and closes the page with a line.
+fn calculate<'a>(
+    facts: &'a [u8],
+    query: &'a [u8],
+    store: &mut [u64],
+    output: &mut [u8],
+    line: &mut [u8],
+) -> Printed
+    requires { ⌜ LINE-BYTES ≤ length (now line) ⌝ }
+    ensures { λ r. ⌜ Prints (now (facts .entry)) (now (query .entry)) (now (store .entry)) (now (output .entry)) (now (line .entry)) r (now (store .exit)) (now (output .exit)) (now (line .exit)) ⌝ }
+{
+    let a = engine::run(facts, query, 1000000, store, output);
+    let n = page::shown(a);
+    let k = page::close(a, line);
+    Printed { output: n, line: k }
 }
 
 fn main() {
@@ -63,8 +46,12 @@ fn main() {
     let mut query = [0u8; 16385];
     let mut store = [0u64; 8192];
     let mut output = [0u8; 32768];
+    let mut line = [0u8; 30];
     let f = read_file(b"facts.rsf", &mut facts);
     let q = read_file(b"query.rml", &mut query);
-    let r = engine::run(&facts[..f], &query[..q], 1000000, &mut store, &mut output);
-    print_run(r, &output);
+    let p = calculate(&facts[..f], &query[..q], &mut store, &mut output, &mut line);
+    let n = p.output;
+    let k = p.line;
+    io::write_all(STDOUT_FILENO, &output[..n]);
+    io::write_all(STDOUT_FILENO, &line[..k]);
 }

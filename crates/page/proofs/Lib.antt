@@ -1,0 +1,2 @@
+-- The closing line, part by part.
+pub mod Closings

@@ -1,0 +1,2 @@
+-- What closes the page that `relcalc` prints.
+pub mod Closing

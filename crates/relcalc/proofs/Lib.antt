@@ -1,0 +1,2 @@
+-- What is printed of a run's answer.
+pub mod Printing

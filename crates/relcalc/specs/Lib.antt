@@ -1,0 +1,2 @@
+-- What `relcalc` prints.
+pub mod Prints
