@@ -1,6 +1,6 @@
 -- The closing line, part by part, and its length.
 use Prim.Native.Nat.{ℕ, zero, suc, _+_, _-_, _/_, _%_, _<_, _≤_}
-use mathlib.Core.Path.{_≡_, refl, sym, ap, ap₂, _∙_, subst}
+use mathlib.Core.Path.{_≡_, refl, sym, ap, ap₂, _∙_}
 use mathlib.Core.Bool.{Bool, true, false, cond}
 use mathlib.Core.List.{List, [], _∷_, _++_, append-assoc}
 use native.Mathlib.Omega.{arith}
@@ -8,9 +8,9 @@ use native.Mathlib.Nat.{min-eq-left}
 use borrow.Author.Tests.{lt-ltb, le-ltb}
 use lib.Dec.{ltb}
 use lib.ListN.{length, take, drop, length-append}
-use lib.Seq.{sets, sets-eq, take-at}
-use Rattle.definition.specs.Text.{Text, ascii, if_then_else_}
-use Rattle.definition.specs.Answer.{Answer, ok, refused, refusal, number, place, ending-word}
+use lib.Seq.{sets-eq, take-at}
+use Rattle.definition.specs.Text.{Text, ascii}
+use Rattle.definition.specs.Answer.{ok, refusal, number, place, ending-word}
 use Rattle.definition.specs.Calls.{ran-answer}
 use Rattle.definition.specs.Page.{digits, decimal, page}
 use Rattle.definition.specs.declared.Ending.{Ending}

@@ -1,6 +1,6 @@
 -- What is printed of a run's answer: the bytes that it has written, which are bytes of its buffer, and the line.
 use Prim.Native.Nat.{ℕ, _≤_}
-use mathlib.Core.Path.{_≡_, refl, sym, ap, ap₂, _∙_}
+use mathlib.Core.Path.{_≡_, refl, ap, ap₂, _∙_}
 use mathlib.Core.List.{List, _++_}
 use native.Mathlib.Omega.{arith}
 use lib.ListN.{length, take, drop, length-append}
@@ -17,7 +17,7 @@ use Rattle.definition.specs.declared.Stopped.{Stopped}
 use Rattle.definition.specs.declared.Ran.{Ran}
 use Rattle.definition.specs.declared.Ran.the-variants.{Ended, Refused}
 use Rattle.definition.proofs.AcceptLaws.{ok-injective}
-use Rattle.page.specs.Closing.{LINE-BYTES, closing, shown, Closes}
+use Rattle.page.specs.Closing.{LINE-BYTES, shown, Closes}
 use Rattle.page.proofs.Closings.{page-parts, line-within, line-closes}
 use Rattle.relcalc.specs.Prints.{BUDGET, Prints}
 
