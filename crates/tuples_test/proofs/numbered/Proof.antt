@@ -1,50 +1,30 @@
 use borrow.Author.Needs.{needs}
-use mathlib.Core.Path.{ap, sym, _∙_}
+use borrow.Author.Tests.{eq-eqb}
+use Prim.Native.Nat.{ℕ, _<_}
+use mathlib.Core.Path.{_≡_, ap, sym, _∙_}
+use mathlib.Core.Bool.{true}
 use mathlib.Core.List.{List}
-use Prim.Native.Nat.{ℕ}
 use lib.Dec.{eqb, lit<}
-use lib.ListN.{getD}
+use lib.ListN.{getD, take}
 use lib.Seq.{getD-take}
 use Rattle.tuples.specs.Places.{digits}
 use Rattle.tuples_test.proofs.numbered.Statement.{statement}
 use Rattle.tuples_test.proofs.numbered.Tie as tie
 
-tuple-of-requires : tie.Need-tuple-of-requires
-tuple-of-requires c κs = search needs
-
-array-read-expect : tie.Need-array-read-expect
-array-read-expect c = search needs
-
-expect-requires : tie.Need-expect-requires
-unfolding digits
-expect-requires c κs = ap (λ (x : ℕ). eqb x 1) (sym (getD-take 3 (c .tuple-of .result) 0 0 (lit< tt)) ∙ ap (λ (l : List ℕ). getD l 0 0) (c .tuple-of .ensures))
-
-array-read-expect-2 : tie.Need-array-read-expect-2
-array-read-expect-2 c = search needs
-
-expect-requires-2 : tie.Need-expect-requires-2
-unfolding digits
-expect-requires-2 c κs = ap (λ (x : ℕ). eqb x 2) (sym (getD-take 3 (c .before .tuple-of .result) 1 0 (lit< tt)) ∙ ap (λ (l : List ℕ). getD l 1 0) (c .before .tuple-of .ensures))
-
-array-read-expect-3 : tie.Need-array-read-expect-3
-array-read-expect-3 c = search needs
-
-expect-requires-3 : tie.Need-expect-requires-3
-unfolding digits
-expect-requires-3 c κs = ap (λ (x : ℕ). eqb x 3) (sym (getD-take 3 (c .before .before .tuple-of .result) 2 0 (lit< tt)) ∙ ap (λ (l : List ℕ). getD l 2 0) (c .before .before .tuple-of .ensures))
-
-returns : tie.Need-returns
-returns c = search needs
+-- an element of a tuple whose elements are the digits of 27
+element : (t : List ℕ) → take 3 t ≡ digits 4 3 27 → (i : ℕ) → i < 3 → eqb (getD t i 0) (getD (digits 4 3 27) i 0) ≡ true
+element t e i h = eq-eqb _ _ (sym (getD-take 3 t i 0 h) ∙ ap (λ (l : List ℕ). getD l i 0) e)
 
 pub numbered-spec : {M : Type 1} → statement M
+unfolding digits
 numbered-spec =
     tie.close
     (tie.spec
-    tuple-of-requires
-    array-read-expect
-    expect-requires
-    array-read-expect-2
-    expect-requires-2
-    array-read-expect-3
-    expect-requires-3
-    returns)
+    (λ c κs. search needs)
+    (λ c. search needs)
+    (λ c κs. element (c .tuple-of .result) (c .tuple-of .ensures) 0 (lit< tt))
+    (λ c. search needs)
+    (λ c κs. element (c .before .tuple-of .result) (c .before .tuple-of .ensures) 1 (lit< tt))
+    (λ c. search needs)
+    (λ c κs. element (c .before .before .tuple-of .result) (c .before .before .tuple-of .ensures) 2 (lit< tt))
+    (λ c. search needs))
