@@ -1,9 +1,15 @@
 // `PRINT ["L"] R(x,y), ENDL;` over the facts `R a "b"`, proved and run: the line `L a "b"`, and byte 10.
+ghost use mathlib.Core.List.{[], _∷_, _++_};
+ghost use Rattle.definition.specs.Text.{ascii};
+ghost use Rattle.lines.specs.Put.{Printed};
 use check::expect;
+use check::same;
 use prints::print;
 
-// All nine bytes fit, and the tenth stays.
-fn fits() {
+// The PRINT with the buffer `out` ends at 9, and leaves the bytes `after`.
+fn prints(out: &mut [u8], after: &[u8])
+    requires { ⌜ Printed (now out) 0 (ascii "L a \"b\"" ++ (10 ∷ 10 ∷ [])) 9 (now after) ⌝ }
+{
     let nodes = [
         16777516u64,
         1,
@@ -18,66 +24,28 @@ fn fits() {
     let firsts = [0u64];
     let vars = [0u8];
     let places = [1032usize, 2569];
-    let facts = [82u8, 32, 97, 32, 34, 98, 34];
-    let query = [34u8, 76, 34];
-    let mut out = [0u8; 10];
     let end = print(
         &nodes,
         &store,
         &firsts,
         &vars,
         2,
-        &facts,
-        &query,
+        b"R a \"b\"",
+        b"\"L\"",
         &places,
         7,
-        &mut out,
+        out,
         0,
     );
     expect(end == 9);
-    expect(out[2] == 97);
-    expect(out[6] == 34);
-    expect(out[8] == 10);
-    expect(out[9] == 0);
-}
-
-// One byte short: nothing is written, and the end is one past the buffer.
-fn full() {
-    let nodes = [
-        16777516u64,
-        1,
-        3,
-        3,
-        144115468322471946,
-        144115468322472222,
-        32,
-        37,
-    ];
-    let store = [2u64, 0];
-    let firsts = [0u64];
-    let vars = [0u8];
-    let places = [1032usize, 2569];
-    let facts = [82u8, 32, 97, 32, 34, 98, 34];
-    let query = [34u8, 76, 34];
-    let mut out = [0u8; 8];
-    let end = print(
-        &nodes,
-        &store,
-        &firsts,
-        &vars,
-        2,
-        &facts,
-        &query,
-        &places,
-        7,
-        &mut out,
-        0,
-    );
-    expect(end == 9);
-    expect(out[0] == 0);
+    expect(same(out, after));
 }
 
 fn main() {
-    fits();
-    full();
+    // All nine bytes fit, and the tenth stays.
+    let mut enough = [0u8; 10];
+    prints(&mut enough, b"L a \"b\"\n\n\x00");
+    // One byte short: nothing is written, and the end is one past the buffer.
+    let mut short = [0u8; 8];
+    prints(&mut short, &[0u8; 8]);
 }
