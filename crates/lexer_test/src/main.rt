@@ -1,83 +1,33 @@
 // Prints what the lexer makes of worked texts and of texts at its limits: a line for each, with the number of tokens and then kind, place and
 // text of each token, or the row and the place of the refusal.
-ghost use lib.ListN.{length};
-ghost use Prim.Native.Nat.{_≤_};
-use definition::Refusal;
 use lexer::Lexed;
-use lexer::kind;
 use lexer::lex;
-use lexer::place;
-use lexer::text_length;
-use lexer::text_start;
-use libc::STDOUT_FILENO;
-
-fn say(text: &[u8]) {
-    io::write_all(STDOUT_FILENO, text);
-}
-
-fn say_number(n: u64) {
-    io::print_decimal(STDOUT_FILENO, n);
-}
-
-// A number after a blank.
-fn next_number(n: u64) {
-    say(b" ");
-    say_number(n);
-}
-
-fn show_refusal(row: u64, at: usize) {
-    say(b"refused");
-    next_number(row);
-    next_number(at as u64);
-    say(b"\n");
-}
-
-fn show_why(why: Refusal) {
-    match why {
-        Refusal::QueryTooLong => show_refusal(8, 16384),
-        Refusal::NoToken(p) => show_refusal(9, p),
-        Refusal::TooMuch(p) => show_refusal(13, p),
-        _ => show_refusal(0, 0),
-    }
-}
-
-// A token as kind, place, and where its text begins and how long it is.
-fn show_token(word: u64) {
-    say(b",");
-    next_number(kind(word));
-    next_number(place(word) as u64);
-    next_number(text_start(word) as u64);
-    next_number(text_length(word) as u64);
-}
-
-fn show_tokens(words: &[u64]) {
-    say_number(words.len() as u64);
-    let mut i = 0;
-    while i < words.len() {
-        show_token(words[i]);
-        i += 1;
-    }
-    say(b"\n");
-}
+use listing::Item;
+use listing::say;
+use listing::say_number;
+use listing::show_items;
+use listing::show_refusal;
 
 fn show(query: &[u8]) {
     let mut words = [0u64; 2048];
     match lex(query, &mut words) {
-        Lexed::Tokens(n) => show_tokens(&words[..n]),
-        Lexed::Refused(why) => show_why(why),
+        Lexed::Tokens(n) => {
+            say_number(n as u64);
+            show_items(Item::Token, &words, n);
+        }
+        Lexed::Refused(q) => show_refusal(q),
     }
+    say(b"\n");
 }
 
 // How many tokens only.
 fn show_count(query: &[u8]) {
     let mut words = [0u64; 2048];
     match lex(query, &mut words) {
-        Lexed::Tokens(n) => {
-            say_number(n as u64);
-            say(b"\n");
-        }
-        Lexed::Refused(why) => show_why(why),
+        Lexed::Tokens(n) => say_number(n as u64),
+        Lexed::Refused(q) => show_refusal(q),
     }
+    say(b"\n");
 }
 
 // Names, reserved words, strings and marks.
