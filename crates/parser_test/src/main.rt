@@ -1,58 +1,13 @@
 // Prints the words that worked queries give: a line for each, with the number of tokens and of words and then kind and three fields of each
 // word, or the row and the place of the refusal.
-use definition::Refusal;
-use libc::STDOUT_FILENO;
+use listing::Item;
+use listing::next_number;
+use listing::say;
+use listing::say_number;
+use listing::show_items;
+use listing::show_refusal;
 use parser::QueryRead;
 use parser::read_query;
-
-fn say(text: &[u8]) {
-    io::write_all(STDOUT_FILENO, text);
-}
-
-fn say_number(n: u64) {
-    io::print_decimal(STDOUT_FILENO, n);
-}
-
-// A number after a blank.
-fn next_number(n: u64) {
-    say(b" ");
-    say_number(n);
-}
-
-fn show_refusal(row: u64, at: usize) {
-    say(b"refused");
-    next_number(row);
-    next_number(at as u64);
-    say(b"\n");
-}
-
-fn show_why(why: Refusal) {
-    match why {
-        Refusal::QueryTooLong => show_refusal(8, 16384),
-        Refusal::NoToken(p) => show_refusal(9, p),
-        Refusal::NoProgram(p) => show_refusal(10, p),
-        Refusal::TooMuch(p) => show_refusal(13, p),
-        _ => show_refusal(0, 0),
-    }
-}
-
-// A word as its kind and its three fields.
-fn show_word(word: u64) {
-    say(b",");
-    next_number(word % 256);
-    next_number(word / 256 % 65536);
-    next_number(word / 16777216 % 65536);
-    next_number(word / 1099511627776);
-}
-
-fn show_words(words: &[u64]) {
-    let mut i = 0;
-    while i < words.len() {
-        show_word(words[i]);
-        i += 1;
-    }
-    say(b"\n");
-}
 
 fn show(query: &[u8]) {
     let mut tokens = [0u64; 2048];
@@ -61,10 +16,11 @@ fn show(query: &[u8]) {
         QueryRead::Read(t, m) => {
             say_number(t as u64);
             next_number(m as u64);
-            show_words(&words[..m]);
+            show_items(Item::Word, &words, m);
         }
-        QueryRead::Refused(why) => show_why(why),
+        QueryRead::Refused(q) => show_refusal(q),
     }
+    say(b"\n");
 }
 
 // Assignments and PRINT.
