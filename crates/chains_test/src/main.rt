@@ -1,33 +1,10 @@
-// Prints the chains found in worked tables: a line for each, with the count and then the buffer up to the first byte that is as it was.
+// Prints the chains found in worked tables: a line for each, with the count and then the bytes of the buffer that are not as they were.
 use bits::set_bit;
 use chains::find_chain;
 use definition::Chained;
-use libc::STDOUT_FILENO;
-
-fn say(text: &[u8]) {
-    io::write_all(STDOUT_FILENO, text);
-}
-
-fn say_number(n: u64) {
-    io::print_decimal(STDOUT_FILENO, n);
-}
-
-fn wide(x: u8) -> u64 {
-    x as u64
-}
-
-// The bytes before the first 255.
-fn show(buffer: &[u8]) {
-    let mut i = 0;
-    while i < buffer.len() {
-        if buffer[i] == 255 {
-            return;
-        }
-        say(b" ");
-        say_number(wide(buffer[i]));
-        i += 1;
-    }
-}
+use listing::say;
+use listing::say_number;
+use listing::show_bytes;
 
 fn show_chain(rows: &[u64], a: usize, b: usize) {
     let n = rows.len();
@@ -45,7 +22,7 @@ fn show_chain(rows: &[u64], a: usize, b: usize) {
         Chained::Chain(count) => say_number(count as u64),
         Chained::Refused(_) => say(b"none"),
     }
-    show(&buffer);
+    show_bytes(&buffer);
     say(b"\n");
 }
 
