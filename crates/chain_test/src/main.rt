@@ -1,69 +1,22 @@
 // Prints the chains found over worked facts: a line for each, with the count and the numbers, or the row and the place of the refusal; then
 // how many bytes of the buffer are as they were.
-ghost use Prim.Native.Nat.{_≤_};
 use chain::chain;
 use definition::Chained;
-use definition::Refusal;
-use libc::STDOUT_FILENO;
-
-fn say(text: &[u8]) {
-    io::write_all(STDOUT_FILENO, text);
-}
-
-fn say_number(n: u64) {
-    io::print_decimal(STDOUT_FILENO, n);
-}
-
-fn show_refusal(row: u64, at: usize) {
-    say(b"refused ");
-    say_number(row);
-    say(b" ");
-    say_number(at as u64);
-}
-
-fn show_why(why: Refusal) {
-    match why {
-        Refusal::FactName(p) => show_refusal(3, p),
-        Refusal::Arity(p) => show_refusal(5, p),
-        Refusal::NotInFacts => show_refusal(15, 0),
-        Refusal::BufferShort => show_refusal(16, 0),
-        Refusal::NoChain => show_refusal(17, 0),
-        _ => show_refusal(0, 0),
-    }
-}
-
-// A byte that is not 255, or how many are.
-fn show_byte(x: u8) -> usize
-    ensures { λ r. ⌜ r ≤ 1 ⌝ }
-{
-    if x == 255 {
-        return 1;
-    }
-    say(b" ");
-    say_number(x as u64);
-    0
-}
-
-// The bytes that are not 255, and how many are.
-fn show_bytes(buffer: &[u8]) {
-    let mut stayed: usize = 0;
-    let mut i = 0;
-    while i < buffer.len() {
-        stayed += show_byte(buffer[i]);
-        i += 1;
-    }
-    say(b", ");
-    say_number(stayed as u64);
-    say(b"\n");
-}
+use listing::say;
+use listing::say_number;
+use listing::show_bytes;
+use listing::show_refusal;
 
 // The chain with a buffer whose bytes are 255.
 fn show_in(facts: &[u8], name: &[u8], first: &[u8], second: &[u8], buffer: &mut [u8]) {
     match chain(facts, name, first, second, buffer) {
         Chained::Chain(count) => say_number(count as u64),
-        Chained::Refused(why) => show_why(why),
+        Chained::Refused(q) => show_refusal(q),
     }
-    show_bytes(buffer);
+    let stayed = show_bytes(buffer);
+    say(b", ");
+    say_number(stayed as u64);
+    say(b"\n");
 }
 
 fn show(facts: &[u8], name: &[u8], first: &[u8], second: &[u8]) {
