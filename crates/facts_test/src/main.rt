@@ -1,68 +1,21 @@
 // Worked facts: what is given, or the row and the place of the refusal. Most have two relations and four elements as limits; then
 // document 01's own limits, below, at and above each.
-use definition::Refusal;
 use facts::FactsRead;
 use facts::read_facts;
-use libc::STDOUT_FILENO;
-
-struct Row {
-    number: u64,
-    place: usize,
-}
-
-fn row_of(q: Refusal) -> Row {
-    match q {
-        Refusal::FactsTooLong => Row {
-            number: 1,
-            place: 32768,
-        },
-        Refusal::FactByte(p) => Row {
-            number: 2,
-            place: p,
-        },
-        Refusal::FactName(p) => Row {
-            number: 3,
-            place: p,
-        },
-        Refusal::FactElement(p) => Row {
-            number: 4,
-            place: p,
-        },
-        Refusal::Arity(p) => Row {
-            number: 5,
-            place: p,
-        },
-        Refusal::TooManyRelations(p) => Row {
-            number: 6,
-            place: p,
-        },
-        Refusal::TooManyElements(p) => Row {
-            number: 7,
-            place: p,
-        },
-        _ => Row {
-            number: 0,
-            place: 0,
-        },
-    }
-}
-
-fn print_two(word: &[u8], a: u64, b: u64) {
-    io::write_all(STDOUT_FILENO, word);
-    io::print_decimal(STDOUT_FILENO, a);
-    io::write_all(STDOUT_FILENO, b" ");
-    io::print_decimal(STDOUT_FILENO, b);
-    io::write_all(STDOUT_FILENO, b"\n");
-}
+use listing::next_number;
+use listing::say;
+use listing::show_refusal;
 
 fn show_read(facts: &[u8], relations: &mut [usize], universe: &mut [usize]) {
     match read_facts(facts, facts, relations, universe) {
-        FactsRead::Given(c) => print_two(b"given ", c.relations as u64, c.elements as u64),
-        FactsRead::Refused(q) => {
-            let r = row_of(q);
-            print_two(b"refused ", r.number, r.place as u64)
+        FactsRead::Given(c) => {
+            say(b"given");
+            next_number(c.relations as u64);
+            next_number(c.elements as u64);
         }
+        FactsRead::Refused(q) => show_refusal(q),
     }
+    say(b"\n");
 }
 
 fn show(facts: &[u8]) {
