@@ -1,5 +1,11 @@
 // Texts at the edges of the rules: each check is proved from the contracts, and run.
+ghost use Prim.Native.Nat.{_+_, _≤_};
 ghost use mathlib.Core.Path.{_≡_};
+ghost use lib.ListN.{length, drop};
+ghost use Rattle.definition.specs.Text.{span, is-name};
+ghost use Rattle.definition.specs.Text.{same as Text·same};
+ghost use Rattle.texts.specs.Classes.{is-of};
+ghost use Rattle.texts.specs.Orders.{order};
 ghost use Rattle.texts_test.specs.Ranks.{rank-of};
 use check::expect;
 use texts::Class;
@@ -20,33 +26,53 @@ fn rank(o: Order) -> usize
     }
 }
 
+// The order of two texts, by its number, and whether they are the same.
+fn ordered(a: &[u8], b: &[u8], n: usize, equal: bool)
+    requires { ⌜ (rank-of (order (now a) (now b)) ≡ n) × (Text·same (now a) (now b) ≡ equal) ⌝ }
+{
+    expect(rank(compare(a, b)) == n);
+    expect(same(a, b) == equal);
+}
+
+// The end of the run of a class.
+fn ends(text: &[u8], at: usize, k: Class, end: usize)
+    requires { ⌜ (at ≤ length (now text)) × (at + span (is-of k) (drop at (now text)) ≡ end) ⌝ }
+{
+    expect(run_end(text, at, k) == end);
+}
+
+// Whether the text is a name.
+fn names(text: &[u8], named: bool)
+    requires { ⌜ is-name (now text) ≡ named ⌝ }
+{
+    expect(is_name(text) == named);
+}
+
 // "a prefix first"
-fn order() {
-    expect(same(b"On", b"On"));
-    expect(!same(b"On", b"Onto"));
-    expect(rank(compare(b"On", b"Onto")) == 0);
-    expect(rank(compare(b"On", b"On")) == 1);
-    expect(rank(compare(b"C2", b"C10")) == 2);
+fn orders() {
+    ordered(b"On", b"Onto", 0, false);
+    ordered(b"On", b"On", 1, true);
+    ordered(b"C2", b"C10", 2, false);
 }
 
 fn runs() {
-    expect(run_end(b"On C10", 0, Class::Part) == 2);
-    expect(run_end(b"On \t C10", 2, Class::Blank) == 5);
-    expect(run_end(b"C10", 3, Class::Inside) == 3);
+    ends(b"On C10", 0, Class::Part, 2);
+    ends(b"On \t C10", 2, Class::Blank, 5);
+    ends(b"C10", 3, Class::Inside, 3);
 }
 
-fn names() {
-    expect(is_name(b"__"));
-    expect(is_name(b"a2345678901234567890123456789012"));
-    expect(!is_name(b"a23456789012345678901234567890123"));
-    expect(!is_name(b"_"));
-    expect(!is_name(b"AVG"));
-    expect(!is_name(b"FALSE"));
-    expect(!is_name(b"2a"));
+fn identifiers() {
+    names(b"__", true);
+    names(b"a2345678901234567890123456789012", true);
+    names(b"a23456789012345678901234567890123", false);
+    names(b"_", false);
+    names(b"AVG", false);
+    names(b"FALSE", false);
+    names(b"2a", false);
 }
 
 fn main() {
-    order();
+    orders();
     runs();
-    names();
+    identifiers();
 }
