@@ -1,27 +1,12 @@
-// Runs the worked cases of document 01 and texts that are refused, each with its own budget, store and output, and prints what the calls answer.
+// Runs the worked cases of document 01 and texts that are refused, each with its own budget, store and output, and prints the case's letter or
+// the row with the query, and then what the calls answer.
 use definition::Ending;
 use definition::Figures;
 use definition::Ran;
-use definition::Refusal;
 use definition::Verdict;
-use libc::STDOUT_FILENO;
-
-fn say(text: &[u8]) {
-    io::write_all(STDOUT_FILENO, text);
-}
-
-// A number after a blank.
-fn next_number(n: usize) {
-    say(b" ");
-    io::print_decimal(STDOUT_FILENO, n as u64);
-}
-
-fn show_refusal(q: Refusal) {
-    say(b"refused");
-    next_number(answers::number(q));
-    next_number(answers::place(q));
-    say(b"\n");
-}
+use listing::next_number;
+use listing::say;
+use listing::show_refusal;
 
 fn show_ending(ending: Ending) {
     match ending {
@@ -43,12 +28,15 @@ fn show_run(r: Ran, output: &[u8]) {
         Ran::Ended(s) => {
             let ending = s.ending;
             show_ending(ending);
-            next_number(s.steps as usize);
-            next_number(s.written);
+            next_number(s.steps as u64);
+            next_number(s.written as u64);
             say(b"\n");
             show_page(output, s.written);
         }
-        Ran::Refused(q) => show_refusal(q),
+        Ran::Refused(q) => {
+            show_refusal(q);
+            say(b"\n");
+        }
     }
 }
 
@@ -57,12 +45,19 @@ fn run_in<'a>(facts: &'a [u8], query: &'a [u8], budget: u32, store: &mut [u64], 
     show_run(r, output);
 }
 
-// A run in a store of so many words and an output of so many bytes, up to 256 each.
-fn run<'a>(facts: &'a [u8], query: &'a [u8], budget: u32, words: usize, room: usize) {
-    let mut store = [7u64; 256];
-    let mut output = [7u8; 256];
+// The case and its query.
+fn show_case(case: &[u8], query: &[u8]) {
+    say(case);
+    say(b": ");
     say(query);
     say(b"\n");
+}
+
+// A run in a store of so many words and an output of so many bytes, up to 256 each.
+fn run<'a>(case: &[u8], facts: &'a [u8], query: &'a [u8], budget: u32, words: usize, room: usize) {
+    let mut store = [7u64; 256];
+    let mut output = [7u8; 256];
+    show_case(case, query);
     if 256 < words {
         return;
     }
@@ -80,10 +75,9 @@ fn run<'a>(facts: &'a [u8], query: &'a [u8], budget: u32, words: usize, room: us
 
 fn show_figures(f: Figures) {
     say(b"accepted");
-    next_number(f.universe);
-    next_number(f.words);
-    next_number(f.relations);
-    say(b"\n");
+    next_number(f.universe as u64);
+    next_number(f.words as u64);
+    next_number(f.relations as u64);
 }
 
 fn show_verdict(v: Verdict) {
@@ -91,63 +85,79 @@ fn show_verdict(v: Verdict) {
         Verdict::Accepted(f) => show_figures(f),
         Verdict::Refused(q) => show_refusal(q),
     }
+    say(b"\n");
 }
 
 // What the check says.
-fn check<'a>(facts: &'a [u8], query: &'a [u8]) {
+fn check<'a>(case: &[u8], facts: &'a [u8], query: &'a [u8]) {
+    show_case(case, query);
     let c = engine::check(facts, query);
     let v = c.verdict;
     show_verdict(v);
 }
 
 // A run with room enough.
-fn run_all<'a>(facts: &'a [u8], query: &'a [u8]) {
-    run(facts, query, 100, 256, 256);
+fn run_all<'a>(case: &[u8], facts: &'a [u8], query: &'a [u8]) {
+    run(case, facts, query, 100, 256, 256);
 }
 
-// "The program .. prints": done, full, spent and row 14.
+// "The program .. prints": cases A to C, no step at all, and a store one word short.
 fn closures<'a>(facts: &'a [u8], query: &'a [u8]) {
-    check(facts, query);
-    run(facts, query, 2, 77, 63);
-    run(facts, query, 2, 77, 62);
-    run(facts, query, 1, 77, 63);
-    run(facts, query, 0, 77, 63);
-    run(facts, query, 2, 76, 63);
+    check(b"A", facts, query);
+    run(b"B", facts, query, 2, 77, 63);
+    run(b"C, 62 bytes", facts, query, 2, 77, 62);
+    run(b"C, budget 1", facts, query, 1, 77, 63);
+    run(b"budget 0", facts, query, 0, 77, 63);
+    run(b"row 14", facts, query, 2, 76, 63);
 }
 
 // Cases D to H.
 fn expressions<'a>(facts: &'a [u8]) {
-    run_all(facts, b"PRINT EX(y, On(x,y) & On(y,z));");
-    run_all(facts, b"PRINT FA(y, !On(y,x));");
-    run_all(facts, b"Held(\"C2\"); PRINT Held(x);");
-    run_all(facts, b"S(x,x) := Held(x); PRINT S(x,y);");
-    run_all(facts, b"On(y,x) := On(x,y); PRINT On(x,y);");
+    run_all(b"D", facts, b"PRINT EX(y, On(x,y) & On(y,z));");
+    run_all(b"E", facts, b"PRINT FA(y, !On(y,x));");
+    run_all(b"F1", facts, b"Held(\"C2\"); PRINT Held(x);");
+    run_all(b"G", facts, b"S(x,x) := Held(x); PRINT S(x,y);");
+    run_all(b"H", facts, b"On(y,x) := On(x,y); PRINT On(x,y);");
 }
 
-// Cases I to L.
+// Cases I to L, and a loop variable as a label.
 fn statements<'a>(facts: &'a [u8]) {
     run_all(
+        b"I",
         facts,
         b"IF \"Z\"=\"Z\" { PRINT \"yes\"; } ELSE { PRINT \"no\", ENDL; }",
     );
     run_all(
+        b"J",
         b"",
         b"PRINT [\"fa\"] FA(x,FALSE(x)), [\"ex\"] EX(x,TRUE(x));",
     );
-    run_all(facts, b"FOR c IN On(x,_) { Held(x) := Held(x) & x != c; }");
-    run_all(facts, b"FOR c IN On(x,_) { PRINT [c] On(c,x); }");
-    run_all(facts, b"WHILE TRUE() { P(); }");
+    run_all(
+        b"K",
+        facts,
+        b"FOR c IN On(x,_) { Held(x) := Held(x) & x != c; }",
+    );
+    run_all(
+        b"label c",
+        facts,
+        b"FOR c IN On(x,_) { PRINT [c] On(c,x); }",
+    );
+    run_all(b"L", facts, b"WHILE TRUE() { P(); }");
 }
 
-// Rows 2 to 5 of facts, and 9 to 12 and 5 of queries.
-fn refusals<'a>(facts: &'a [u8]) {
-    run_all(b"R a\x01\n", b"P();");
-    run_all(b"R a\n1x\n", b"P();");
-    run_all(b"R \"a\n", b"P();");
-    run_all(b"R a b c d\n", b"P();");
-    run_all(facts, b"P(); ?");
-    run_all(facts, b"P() := ;");
-    run_all(facts, b"PRINT On(Held,x);");
+fn facts_refused() {
+    run_all(b"row 2", b"R a\x01\n", b"P();");
+    run_all(b"row 3", b"R a\n1x\n", b"P();");
+    run_all(b"row 4", b"R \"a\n", b"P();");
+    run_all(b"row 5", b"R a b c d\n", b"P();");
+}
+
+fn query_refused<'a>(facts: &'a [u8]) {
+    run_all(b"row 9", facts, b"P(); ?");
+    run_all(b"row 10", facts, b"P() := ;");
+    run_all(b"row 11", facts, b"PRINT On(Held,x);");
+    run_all(b"row 12", facts, b"P(x) := On(x,y);");
+    run_all(b"row 5", facts, b"P(x) := On(x);");
 }
 
 fn main() {
@@ -155,7 +165,6 @@ fn main() {
     closures(f, b"Dep(x,y) := TC(On(x,y)); PRINT [\"Dep\"] Dep(x,y);");
     expressions(f);
     statements(f);
-    refusals(f);
-    run_all(f, b"P(x) := On(x,y);");
-    run_all(f, b"P(x) := On(x);");
+    facts_refused();
+    query_refused(f);
 }
