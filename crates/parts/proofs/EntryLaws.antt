@@ -1,27 +1,32 @@
 -- A part entered into a sorted list, by its place.
 use Prim.Native.Nat.{ℕ, zero, suc, _+_, _-_, _<_, _≤_}
 use mathlib.Core.Path.{_≡_, refl, sym, ap, subst, _∙_}
-use mathlib.Core.List.{List, [], _∷_, _++_, append-assoc, append-nil}
-use mathlib.Core.Bool.{Bool, true, false, cond, not}
+use mathlib.Core.List.{List, [], _∷_, _++_, append-assoc}
+use mathlib.Core.Bool.{Bool, true, false}
 use native.Mathlib.Numerals.{add-one}
 use native.Mathlib.Nat.{zero-add, suc-add}
 use native.Mathlib.Omega.{arith}
+use native.Mathlib.Decide.{decLt}
 use lib.Dec.{T, ltb}
 use lib.ListN.{length, getD, take, drop, set, drop-of-length-le, length-append, length-set, length-drop, take-append-drop}
-use lib.Seq.{drop-cons, take-suc, set-split, length-take-le, drop-append-le, take-append-le, set-append-left, paste, paste-zero, paste-suc, drop-drop, getD-drop, take-nil, length-paste-head, getD-append-add, take-take, getD-take}
+use lib.Seq.{drop-cons, take-suc, set-split, length-take-le, set-append-left, paste, paste-zero, paste-suc, getD-drop, take-nil, length-paste-head, getD-append-add, take-take}
 use borrow.Author.Tests.{le-ltb, lt-ltb}
-use Rattle.definition.specs.Text.{Text, same, earlier, span}
-use Rattle.definition.proofs.MeaningLaws.{same-eq, same-refl}
+use Rattle.definition.specs.Text.{Text, same, earlier}
+use Rattle.definition.proofs.MeaningLaws.{same-eq}
 use Rattle.definition.specs.Facts.{Ascending}
 use Rattle.definition.proofs.UniverseLaws.{earlier-not-same, earlier-trans}
 use Rattle.texts.specs.Orders.{order}
 use Rattle.texts.specs.declared.Order.the-variants.{Before, Same, After}
 use Rattle.texts.proofs.OrderLaws.{is-same, is-before, is-after}
 use Rattle.parts.specs.Packed.{text-of}
-use Rattle.parts.specs.Entries.{quoted-too, enter, in-front, count-in, texts-of}
+use Rattle.parts.specs.Entries.{enter, in-front, count-in, texts-of}
 use Rattle.parts.specs.Places.{entered-at}
 use Rattle.parts.specs.declared.Place.the-variants.{Found, New}
 use Rattle.parts.specs.declared.Entered.the-variants.{Count, Full}
+
+refuted : (b : Bool) → (T b → ⊥) → b ≡ false
+refuted true f = absurd (f tt)
+refuted false f = refl
 
 module _ (facts query : Text) (v : ℕ) where
   -- the parts before the place p have earlier texts
@@ -37,9 +42,6 @@ module _ (facts query : Text) (v : ℕ) where
     passed-end l = h .is ∙ rw (drop-of-length-le ws)
 
     module _ (l : p < length ws) where
-      abbrev this : ℕ
-      this = getD ws p 0
-
       pub passed-found : order (text-of facts query v) (text-of facts query (getD ws p 0)) ≡ Same → enter facts query v ws ≡ entered-at v ws (Found p)
       unfolding enter
       passed-found e = h .is ∙ rw (drop-cons ws p 0, is-same (text-of facts query v) (text-of facts query (getD ws p 0)) e)
@@ -65,36 +67,34 @@ module _ (facts query : Text) (v : ℕ) where
   first-earlier w (x ∷ ws) zero a l = a .0
   first-earlier w (x ∷ ws) (suc p) a l = earlier-trans (text w) (text x) (text (getD ws p 0)) (a .0) (first-earlier x ws p (a .1) (omega arith))
 
-  -- a text that is later than another is neither the same nor earlier
-  later-differs : (s t : Text) → T (earlier s t) → same t s ≡ false
-  later-differs s t b = go (same t s) refl
-    where
-      go : (c : Bool) → same t s ≡ c → c ≡ false
-      go false e = refl
-      go true e =
-          let m : T (same t s) = rw e tt in
-          let q = same-eq t s m in
-          absurd (earlier-not-same t t (subst (λ (x : Text). T (earlier x t)) (sym q) b) (subst (λ (x : Text). T (same t x)) (sym q) m))
-
-  later-not-earlier : (s t : Text) → T (earlier s t) → earlier t s ≡ false
-  later-not-earlier s t b = go (earlier t s) refl
-    where
-      go : (c : Bool) → earlier t s ≡ c → c ≡ false
-      go false e = refl
-      go true e = absurd (earlier-not-same s s (earlier-trans s t s b (rw e tt)) (same-refl s))
-
-  pub passed-to : (ws : List ℕ) (p : ℕ) → Ascending (texts-of facts query ws) → p < length ws → order (text-of facts query v) (text-of facts query (getD ws p 0)) ≡ Same → Passed ws p
+  -- in byte order, the parts before one than which v is not earlier are earlier than v
+  passed-to : (ws : List ℕ) (p : ℕ) → Ascending (texts-of facts query ws) → p < length ws → (T (earlier (text v) (text (getD ws p 0))) → ⊥) → Passed ws p
   unfolding enter
-  passed-to [] p a l e = absurd (omega arith)
-  passed-to (w ∷ ws) zero a l e = record { is = refl }
-  passed-to (w ∷ ws) (suc p) a l e =
-      let s : T (same (text v) (text (getD ws p 0))) = rw (is-same (text v) (text (getD ws p 0)) e) tt in
-      let b : T (earlier (text w) (text v)) = subst (λ (t : Text). T (earlier (text w) t)) (sym (same-eq (text v) (text (getD ws p 0)) s)) (first-earlier w ws p a (omega arith)) in
-      record { is = rw (later-differs (text w) (text v) b, later-not-earlier (text w) (text v) b) (ap (λ (r : List ℕ). w ∷ r) (passed-to ws p (a .1) (omega arith) e .is)) }
+  passed-to [] p a l n = absurd (omega arith)
+  passed-to (w ∷ ws) zero a l n = record { is = refl }
+  passed-to (w ∷ ws) (suc p) a l n =
+      let f = first-earlier w ws p a (omega arith) in
+      let s : same (text v) (text w) ≡ false = refuted (same (text v) (text w)) (λ m. n (subst (λ (t : Text). T (earlier t (text (getD ws p 0)))) (sym (same-eq (text v) (text w) m)) f)) in
+      let e : earlier (text v) (text w) ≡ false = refuted (earlier (text v) (text w)) (λ b. n (earlier-trans (text v) (text w) (text (getD ws p 0)) b f)) in
+      record { is = rw (s, e) (ap (λ (r : List ℕ). w ∷ r) (passed-to ws p (a .1) (omega arith) n .is)) }
 
--- the search for a text in a list
-abbrev pub differs : Text → Text → ℕ → ℕ → Bool
-differs facts query v w = not (same (text-of facts query v) (text-of facts query w))
+  -- a search that need not pass the parts one by one
+  module _ (ws : List ℕ) (p : ℕ) where
+    module _ (a : Ascending (texts-of facts query ws)) (l : p < length ws) where
+      pub sorted-found : order (text-of facts query v) (text-of facts query (getD ws p 0)) ≡ Same → enter facts query v ws ≡ entered-at v ws (Found p)
+      sorted-found e =
+          let m : T (same (text v) (text (getD ws p 0))) = rw (is-same (text v) (text (getD ws p 0)) e) tt in
+          passed-found ws p (passed-to ws p a l (λ b. earlier-not-same (text v) (text (getD ws p 0)) b m)) l e
+
+      pub sorted-after : order (text-of facts query v) (text-of facts query (getD ws p 0)) ≡ After → Passed ws (p + 1)
+      sorted-after e = passed-one ws p (passed-to ws p a l (λ b. subst T (is-after (text v) (text (getD ws p 0)) e .1) b)) l e
+
+    pub sorted-new : (q : ℕ) → q ≡ p → Passed ws p → (q < length ws → order (text-of facts query v) (text-of facts query (getD ws q 0)) ≡ Before) → enter facts query v ws ≡ entered-at v ws (New p)
+    sorted-new q e h f = go (decLt p (length ws))
+      where
+        go : Dec (p < length ws) → enter facts query v ws ≡ entered-at v ws (New p)
+        go (yes l) = passed-new ws p h l (subst (λ (k : ℕ). order (text-of facts query v) (text-of facts query (getD ws k 0)) ≡ Before) e (f (omega arith)))
+        go (no l) = passed-end ws p h (omega arith)
 
 -- putting a number among the first words, one step to the right after the other
 pub take-drop : (m p : ℕ) (d : List ℕ) → take m (drop p d) ≡ drop p (take (p + m) d)
@@ -185,13 +185,3 @@ module _ (words : List ℕ) (n : ℕ) (within : n ≤ length words) (p : ℕ) (e
     front-longer k =
         let g = fits (n + 1) longer (omega arith) in
         (g .0, ap (λ (l : List ℕ). l ++ drop (n + 1) words) (ap (λ (l : List ℕ). l ++ v ∷ drop p (take n words)) (sym (take-take p n words h)) ∙ sym e) ∙ g .1)
-
--- a part whose text is there already, at a place below n
-pub sorted-found : (facts query : Text) (v : ℕ) (words : List ℕ) (n : ℕ) → n ≤ length words → Ascending (texts-of facts query (take n words)) → (p x : ℕ) → p < n
-    → order (text-of facts query v) (text-of facts query (getD (take n words) p 0)) ≡ Same → x ≡ quoted-too v (getD words p 0)
-    → (Count n ≡ count-in (enter facts query v (take n words)) words) × (set words p x ≡ in-front (enter facts query v (take n words)) words)
-sorted-found facts query v words n within a p x h s e =
-    let l : p < length (take n words) = rw (length-take-le n words within) h in
-    front-changed words n within p (enter facts query v (take n words)) x h
-    (passed-found facts query v (take n words) p (passed-to facts query v (take n words) p a l s) l s
-    ∙ ap (λ (k : ℕ). take p (take n words) ++ k ∷ drop (suc p) (take n words)) (ap (quoted-too v) (getD-take n words p 0 h) ∙ sym e))

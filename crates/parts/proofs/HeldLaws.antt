@@ -1,20 +1,19 @@
 -- Lists of parts that lent words hold, and what the definition says of them.
-use Prim.Native.Nat.{ℕ, zero, suc, _+_, _-_, _<_, _≤_}
+use Prim.Native.Nat.{ℕ, suc, _+_, _-_, _<_, _≤_}
 use mathlib.Core.Path.{_≡_, refl, sym, ap, subst, _∙_}
-use mathlib.Core.List.{List, [], _∷_, _++_, map, append-assoc, append-nil}
-use mathlib.Core.Bool.{Bool, true, false, cond, not}
+use mathlib.Core.List.{List, [], _∷_, _++_}
+use mathlib.Core.Bool.{Bool, true, false, cond}
 use native.Mathlib.Omega.{arith}
 use lib.Dec.{ltb}
-use lib.ListN.{length, getD, take, drop, set, length-append, length-drop, take-append-drop}
-use lib.Seq.{take-at, drop-at, drop-append-add, drop-drop, set-at, drop-cons, length-take-le}
-use borrow.Author.Tests.{le-ltb, lt-ltb, ltb-false, ltb-true}
-use Rattle.definition.specs.Text.{Text, same, earlier, span}
+use lib.ListN.{length, take, drop, length-append, length-drop, take-append-drop}
+use lib.Seq.{take-at, drop-at, drop-drop, length-take-le}
+use borrow.Author.Tests.{ltb-false, ltb-true}
+use Rattle.definition.specs.Text.{Text, same, earlier}
 use Rattle.definition.specs.Facts.{insert, Ascending}
-use Rattle.definition.specs.Calls.{Part, part-text}
+use Rattle.definition.specs.Calls.{part-text}
 use Rattle.definition.proofs.UniverseLaws.{insert-ascending}
 use Rattle.parts.specs.Packed.{text-of}
 use Rattle.parts.specs.Entries.{quoted-too, index, enter, enter-all, note, note-all, texts-of, in-front, count-in, Held}
-use Rattle.parts.specs.declared.Entered.{Entered}
 use Rattle.parts.specs.declared.Entered.the-variants.{Count, Full}
 use Rattle.parts.proofs.PackLaws.{quoted-part}
 

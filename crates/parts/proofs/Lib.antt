@@ -2,3 +2,4 @@
 pub mod EntryLaws
 pub mod PackLaws
 pub mod HeldLaws
+pub mod PositionLaws

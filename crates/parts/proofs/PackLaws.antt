@@ -1,17 +1,16 @@
 -- What a packed number holds.
-use Prim.Native.Nat.{ℕ, _+_, _-_, _*_, _/_, _%_, _<_, _≤_}
+use Prim.Native.Nat.{ℕ, _+_, _-_, _/_, _%_, _<_, _≤_}
 use mathlib.Core.List.{[]}
 use native.Mathlib.Nat.{add-sub-cancel-left}
 use lib.ListN.{length, take, drop, drop-of-length-le, length-drop}
 use lib.Seq.{take-all, take-nil}
-use mathlib.Core.Path.{_≡_, refl, sym, ap, _∙_}
+use mathlib.Core.Path.{_≡_, refl, sym, _∙_}
 use mathlib.Core.Bool.{Bool, true, false, _&&_, cond}
 use native.Mathlib.Omega.{arith}
 use lib.Dec.{eqb}
 use borrow.Author.Tests.{eqb-true}
 use Rattle.definition.specs.Text.{Text}
-use Rattle.definition.specs.Calls.{Part}
-use Rattle.parts.specs.Packed.{pack, tag-of, part-of, text-of}
+use Rattle.parts.specs.Packed.{pack, tag-of, part-of}
 use Rattle.parts.specs.Entries.{quoted-too}
 
 module _ (text offset len tag : ℕ) (x : text < 2) (n : len < 64) (t : tag < 4) where

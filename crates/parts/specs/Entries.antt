@@ -1,10 +1,10 @@
 -- Lists of parts: those of the universe stand in byte order, and a tag of 1 says that some fact quoted the element.
 use Prim.Native.Nat.{ℕ, _+_, _≤_}
 use mathlib.Core.Path.{_≡_}
-use mathlib.Core.Bool.{Bool, _&&_, not}
+use mathlib.Core.Bool.{_&&_, not}
 use mathlib.Core.List.{List, [], _∷_, _++_, map}
 use lib.Dec.{ltb, eqb}
-use lib.ListN.{length, take, drop}
+use lib.ListN.{length, drop}
 use Rattle.definition.specs.Text.{if_then_else_, Text, same, earlier, span}
 use Rattle.parts.specs.Packed.{tag-of, text-of}
 use Rattle.parts.specs.declared.Entered.{Entered}
@@ -15,9 +15,12 @@ unfoldable pub quoted-too : ℕ → ℕ → ℕ
 quoted-too v w = if eqb (tag-of v) 1 && eqb (tag-of w) 0 then (w + 1) else w
 
 module _ (facts query : Text) where
-  -- how many parts stand before the first that has the text of v
+  -- how many parts stand before the first that has the text t, or that of v
+  abbrev pub position : Text → List ℕ → ℕ
+  position t ws = span (λ w. not (same t (text-of facts query w))) ws
+
   unfoldable pub index : ℕ → List ℕ → ℕ
-  index v ws = span (λ w. not (same (text-of facts query v) (text-of facts query w))) ws
+  index v ws = position (text-of facts query v) ws
 
   -- a set of parts in byte order, with one more: of equal texts the first part stays
   unfoldable pub enter : ℕ → List ℕ → List ℕ

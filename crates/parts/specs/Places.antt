@@ -1,12 +1,7 @@
 -- A place in a sorted list, as what entering a part there makes of the list.
 use Prim.Native.Nat.{ℕ, suc, _≤_, _<_}
-use mathlib.Core.Path.{_≡_}
 use mathlib.Core.List.{List, _∷_, _++_}
-use lib.ListN.{length, getD, take, drop}
-use Rattle.definition.specs.Text.{Text}
-use Rattle.texts.specs.Orders.{order}
-use Rattle.texts.specs.declared.Order.the-variants.{Same}
-use Rattle.parts.specs.Packed.{text-of}
+use lib.ListN.{getD, take, drop}
 use Rattle.parts.specs.Entries.{quoted-too}
 use Rattle.parts.specs.declared.Place.{Place}
 use Rattle.parts.specs.declared.Place.the-variants.{Found, New}
@@ -18,7 +13,3 @@ entered-at v ws (New p) = take p ws ++ v ∷ drop p ws
 abbrev pub PlaceWithin : ℕ → Place → Type 0
 PlaceWithin n (Found p) = p < n
 PlaceWithin n (New p) = p ≤ n
-
--- an index of the list is that of a part with the text of v
-abbrev pub Finds : Text → Text → ℕ → List ℕ → ℕ → Type 0
-Finds facts query v ws r = r < length ws → order (text-of facts query v) (text-of facts query (getD ws r 0)) ≡ Same

@@ -1,12 +1,12 @@
 // Parts of two texts as numbers, and lists of them: names and elements.
 ghost use mathlib.Core.Path.{_≡_};
 ghost use mathlib.Core.List.{_∷_, _++_};
-ghost use Prim.Native.Nat.{ℕ, _+_, _≤_, _<_};
-ghost use lib.ListN.{length, getD, take, drop};
+ghost use Prim.Native.Nat.{_+_, _≤_, _<_};
+ghost use lib.ListN.{length, take, drop};
 ghost use Rattle.parts.specs.Packed.{pack, text-of};
 ghost use Rattle.definition.specs.Facts.{Ascending};
-ghost use Rattle.parts.specs.Entries.{quoted-too, index, enter, in-front, count-in, texts-of};
-ghost use Rattle.parts.specs.Places.{entered-at, PlaceWithin, Finds};
+ghost use Rattle.parts.specs.Entries.{quoted-too, position, index, enter, in-front, count-in, texts-of};
+ghost use Rattle.parts.specs.Places.{entered-at, PlaceWithin};
 use texts::Order;
 use texts::compare;
 use texts::same;
@@ -45,21 +45,28 @@ pub fn text_of<'a>(facts: &'a [u8], query: &'a [u8], w: usize) -> &'a [u8]
     part(query, offset, n)
 }
 
-// The index of the first of the parts that has the text of v; their number, if none has.
-pub fn index_of<'a>(facts: &'a [u8], query: &'a [u8], parts: &[usize], v: usize) -> usize
-    ensures value { λ r. ⌜ r ≡ index (now (facts .entry)) (now (query .entry)) v (now (parts .entry)) ⌝ }
+// The index of the first of the parts that has the text t; their number, if none has.
+pub fn position_of<'a>(facts: &'a [u8], query: &'a [u8], parts: &[usize], t: &[u8]) -> usize
+    ensures value { λ r. ⌜ r ≡ position (now (facts .entry)) (now (query .entry)) (now (t .entry)) (now (parts .entry)) ⌝ }
     ensures within { λ r. ⌜ r ≤ length (now (parts .entry)) ⌝ }
 {
-    let text = text_of(facts, query, v);
     let mut k: usize = 0;
     while k < parts.len() {
         let w = parts[k];
-        if same(text, text_of(facts, query, w)) {
+        if same(t, text_of(facts, query, w)) {
             return k;
         }
         k += 1;
     }
     k
+}
+
+// The index of the first of the parts that has the text of v; their number, if none has.
+pub fn index_of<'a>(facts: &'a [u8], query: &'a [u8], parts: &[usize], v: usize) -> usize
+    ensures value { λ r. ⌜ r ≡ index (now (facts .entry)) (now (query .entry)) v (now (parts .entry)) ⌝ }
+    ensures within { λ r. ⌜ r ≤ length (now (parts .entry)) ⌝ }
+{
+    position_of(facts, query, parts, text_of(facts, query, v))
 }
 
 // Where a part stands in a sorted list, or where it belongs.
@@ -122,19 +129,13 @@ pub enum Entered {
     Full,
 }
 
-// Enters v into the sorted list of the first n words; where it is full, the words stay.
-pub fn enter_part<'a>(
-    facts: &'a [u8],
-    query: &'a [u8],
-    words: &mut [usize],
-    n: usize,
-    v: usize,
-) -> Entered
-    requires { ⌜ n ≤ length (now words) ⌝ }
-    ensures value { λ r. ⌜ r ≡ count-in (enter (now (facts .entry)) (now (query .entry)) v (take n (now (words .entry)))) (now (words .entry)) ⌝ }
-    ensures words { λ _. ⌜ now (words .exit) ≡ in-front (enter (now (facts .entry)) (now (query .entry)) v (take n (now (words .entry)))) (now (words .entry)) ⌝ }
+// Enters v at its place in the list of the first n words; where it is full, the words stay.
+fn enter_at(words: &mut [usize], n: usize, v: usize, place: Place) -> Entered
+    requires { ⌜ (n ≤ length (now words)) × PlaceWithin n place ⌝ }
+    ensures value { λ r. ⌜ r ≡ count-in (entered-at v (take n (now (words .entry))) place) (now (words .entry)) ⌝ }
+    ensures words { λ _. ⌜ now (words .exit) ≡ in-front (entered-at v (take n (now (words .entry))) place) (now (words .entry)) ⌝ }
 {
-    match place_of(facts, query, &words[..n], v) {
+    match place {
         Place::Found(p) => {
             let w = words[p];
             words[p] = quoted_too(v, w);
@@ -150,9 +151,27 @@ pub fn enter_part<'a>(
     }
 }
 
-// Where a part with the text of v is met when each step halves a sorted list; the number of parts, if none is.
-fn find_part<'a>(facts: &'a [u8], query: &'a [u8], parts: &[usize], v: usize) -> usize
-    ensures { λ r. ⌜ Finds (now (facts .entry)) (now (query .entry)) v (now (parts .entry)) r ⌝ }
+// Enters v into the sorted list of the first n words; where it is full, the words stay.
+pub fn enter_part<'a>(
+    facts: &'a [u8],
+    query: &'a [u8],
+    words: &mut [usize],
+    n: usize,
+    v: usize,
+) -> Entered
+    requires { ⌜ n ≤ length (now words) ⌝ }
+    ensures value { λ r. ⌜ r ≡ count-in (enter (now (facts .entry)) (now (query .entry)) v (take n (now (words .entry)))) (now (words .entry)) ⌝ }
+    ensures words { λ _. ⌜ now (words .exit) ≡ in-front (enter (now (facts .entry)) (now (query .entry)) v (take n (now (words .entry)))) (now (words .entry)) ⌝ }
+{
+    let place = place_of(facts, query, &words[..n], v);
+    enter_at(words, n, v, place)
+}
+
+// The same place, met in few steps: each halves the list, whose texts ascend.
+fn find_place<'a>(facts: &'a [u8], query: &'a [u8], parts: &[usize], v: usize) -> Place
+    requires { ⌜ Ascending (texts-of (now facts) (now query) (now parts)) ⌝ }
+    ensures value { λ r. ⌜ enter (now (facts .entry)) (now (query .entry)) v (now (parts .entry)) ≡ entered-at v (now (parts .entry)) r ⌝ }
+    ensures within { λ r. ⌜ PlaceWithin (length (now (parts .entry))) r ⌝ }
 {
     let text = text_of(facts, query, v);
     let mut low: usize = 0;
@@ -161,7 +180,7 @@ fn find_part<'a>(facts: &'a [u8], query: &'a [u8], parts: &[usize], v: usize) ->
         let p = low + (high - low) / 2;
         let w = parts[p];
         match compare(text, text_of(facts, query, w)) {
-            Order::Same => return p,
+            Order::Same => return Place::Found(p),
             Order::Before => {
                 high = p;
             }
@@ -170,10 +189,10 @@ fn find_part<'a>(facts: &'a [u8], query: &'a [u8], parts: &[usize], v: usize) ->
             }
         }
     }
-    parts.len()
+    Place::New(low)
 }
 
-// As `enter_part`, in few steps where the text is there: most elements of facts come again.
+// As `enter_part`, in few steps.
 pub fn enter_again<'a>(
     facts: &'a [u8],
     query: &'a [u8],
@@ -185,11 +204,6 @@ pub fn enter_again<'a>(
     ensures value { λ r. ⌜ r ≡ count-in (enter (now (facts .entry)) (now (query .entry)) v (take n (now (words .entry)))) (now (words .entry)) ⌝ }
     ensures words { λ _. ⌜ now (words .exit) ≡ in-front (enter (now (facts .entry)) (now (query .entry)) v (take n (now (words .entry)))) (now (words .entry)) ⌝ }
 {
-    let p = find_part(facts, query, &words[..n], v);
-    if p < n {
-        let w = words[p];
-        words[p] = quoted_too(v, w);
-        return Entered::Count(n);
-    }
-    enter_part(facts, query, words, n, v)
+    let place = find_place(facts, query, &words[..n], v);
+    enter_at(words, n, v, place)
 }

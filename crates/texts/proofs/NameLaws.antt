@@ -1,13 +1,12 @@
 -- What makes a text a name, test by test.
-use Prim.Native.Nat.{ℕ, zero, suc, _+_, _<_, _≤_}
-use mathlib.Core.Path.{_≡_, refl, sym, ap, _∙_}
-use mathlib.Core.List.{List, [], _∷_}
-use mathlib.Core.Bool.{Bool, true, false, _&&_, not}
+use Prim.Native.Nat.{_+_, _<_, _≤_}
+use mathlib.Core.Path.{_≡_, refl}
+use mathlib.Core.List.{[], _∷_}
+use mathlib.Core.Bool.{Bool, true, false, _&&_}
 use native.Mathlib.Omega.{arith}
 use lib.ListN.{length, getD, drop}
-use lib.Dec.{leb}
 use borrow.Author.Tests.{le-leb, lt-leb}
-use Rattle.definition.specs.Text.{Text, ascii, span, all-of, same, member, reserved, is-letter, is-part, is-name}
+use Rattle.definition.specs.Text.{Text, ascii, span, same, member, reserved, is-letter, is-part, is-name}
 use Rattle.texts.proofs.RunLaws.{all-span, not-all-span}
 
 no-and : (b : Bool) → b && false ≡ false

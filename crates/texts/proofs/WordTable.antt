@@ -2,11 +2,10 @@
 use Prim.Native.Nat.{ℕ, zero, suc, _+_, _*_, _-_, _<_, _≤_}
 use mathlib.Core.Path.{_≡_, refl, sym, ap, subst, _∙_}
 use mathlib.Core.List.{List, [], _∷_}
-use mathlib.Core.Bool.{Bool, true, false, _&&_, _||_, cond}
+use mathlib.Core.Bool.{Bool, true, false, _&&_}
 use mathlib.Core.Logic.{⊎-elim}
 use native.Mathlib.Nat.{not-suc-le-zero, le-of-suc-le-suc, eq-or-lt-of-le, add-suc}
 use native.Mathlib.Numerals.{add-one}
-use native.Mathlib.Omega.{arith}
 use lib.Dec.{T, leb, leb→le}
 use lib.ListN.{length, getD, take, drop, drop-of-length-le}
 use lib.Seq.{drop-cons}
@@ -14,7 +13,7 @@ use Rattle.definition.specs.Text.{Text, ascii, same, member, some-of, reserved}
 use Rattle.definition.specs.Token.{word-terminal, name, key, FIRST-WORD}
 use Rattle.definition.proofs.BoolLaws.{and-left, and-right}
 use Rattle.definition.proofs.MeaningLaws.{same-eq, same-refl}
-use Rattle.definition.proofs.BoolLaws.{is-true, is-false, decide}
+use Rattle.definition.proofs.BoolLaws.{is-true}
 
 -- the constants of the code
 unfoldable pub letters : Text

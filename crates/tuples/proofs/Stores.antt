@@ -5,7 +5,7 @@ use mathlib.Core.List.{List, [], _∷_, _++_, append-assoc, append-nil}
 use native.Mathlib.Nat.{add-zero, add-suc, suc-add, not-suc-le-zero, le-of-suc-le-suc}
 use native.Mathlib.Omega.{arith}
 use native.Mathlib.Numerals.{add-one}
-use lib.ListN.{length, getD, set, take, drop, length-set, replicate, length-replicate, length-drop, drop-of-length-le, take-append-drop}
+use lib.ListN.{length, getD, set, take, drop, replicate, length-replicate, length-drop, drop-of-length-le, take-append-drop}
 use lib.Seq.{sets, take-suc, take-set-le, getD-set-other, set-out, length-take-le, sets-eq, set-comm, set-set, take-at, drop-at, drop-drop}
 
 zero-ne-suc : (n : ℕ) → 0 ≡ suc n → ⊥

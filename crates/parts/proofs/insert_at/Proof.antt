@@ -2,9 +2,8 @@ use Rattle.parts.proofs.insert_at.Statement.{statement}
 use Rattle.parts.proofs.insert_at.Tie as tie
 use borrow.Author.Needs.{needs}
 use Prim.Native.Nat.{_≤_, _+_, _-_}
-use mathlib.Core.Path.{_≡_, refl, sym, ap, ap₂, _∙_}
+use mathlib.Core.Path.{_≡_, refl}
 use native.Mathlib.Omega.{arith}
-use denote.Ref.{now}
 use lib.ListN.{length, length-set}
 use Rattle.parts.proofs.EntryLaws.{Moved, moved-none, moved-one, moved-all}
 

@@ -1,7 +1,6 @@
 use borrow.Author.Needs.{needs}
 use Rattle.parts.proofs.part.Statement.{statement}
 use Rattle.parts.proofs.part.Tie as tie
-use native.Mathlib.Omega.{arith}
 use Rattle.parts.proofs.PackLaws.{no-bytes, few-bytes, all-bytes}
 use denote.Ref.{now}
 

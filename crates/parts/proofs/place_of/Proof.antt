@@ -1,11 +1,11 @@
 use Rattle.parts.proofs.place_of.Statement.{statement}
 use Rattle.parts.proofs.place_of.Tie as tie
 use borrow.Author.Needs.{needs}
-use Prim.Native.Nat.{_≤_, _+_, _-_}
-use mathlib.Core.Path.{_≡_, refl, sym, ap, ap₂, _∙_}
+use Prim.Native.Nat.{_≤_, _-_}
+use mathlib.Core.Path.{_≡_, sym, ap₂, _∙_}
 use native.Mathlib.Omega.{arith}
 use denote.Ref.{now}
-use lib.ListN.{length, getD, drop}
+use lib.ListN.{length, getD}
 use Rattle.texts.specs.Orders.{order}
 use Rattle.parts.specs.Packed.{text-of}
 use Rattle.parts.proofs.EntryLaws.{Passed, passed-none, passed-end, passed-found, passed-new, passed-one}

@@ -1,8 +1,7 @@
 use borrow.Author.Needs.{needs}
 use Rattle.parts.proofs.text_of.Statement.{statement}
 use Rattle.parts.proofs.text_of.Tie as tie
-use mathlib.Core.Path.{_≡_, refl, sym, ap, _∙_}
-use native.Mathlib.Omega.{arith}
+use mathlib.Core.Path.{_∙_}
 use borrow.Author.Tests.{eq-eqb, ne-eqb}
 use Rattle.parts.specs.Packed.{text-of}
 

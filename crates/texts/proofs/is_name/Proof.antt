@@ -1,7 +1,7 @@
 use borrow.Author.Needs.{needs}
 use Rattle.texts.proofs.is_name.Statement.{statement}
 use Rattle.texts.proofs.is_name.Tie as tie
-use mathlib.Core.Path.{_≡_, sym, _∙_}
+use mathlib.Core.Path.{sym, _∙_}
 use native.Mathlib.Omega.{arith}
 use borrow.Author.Tests.{not-true, not-false}
 use Rattle.texts.proofs.NameLaws.{name-empty, name-long, name-first, name-part, name-any, name-reserved, name-good}
