@@ -1,13 +1,13 @@
 -- The facts read again, line by line.
-use Prim.Native.Nat.{ℕ, suc, _+_, _-_, _<_, _≤_}
-use mathlib.Core.Path.{_≡_, refl, sym, ap, _∙_}
-use mathlib.Core.List.{List, [], _∷_, _++_, append-nil}
-use mathlib.Core.Bool.{Bool, true, false}
+use Prim.Native.Nat.{ℕ, _+_, _-_, _<_, _≤_}
+use mathlib.Core.Path.{_≡_, sym, ap, _∙_}
+use mathlib.Core.List.{List, [], _++_}
+use mathlib.Core.Bool.{true, false}
 use native.Mathlib.Omega.{arith}
 use native.Mathlib.Decide.{decLt}
 use lib.ListN.{length, take, drop, drop-of-length-le}
 use Rattle.definition.specs.Text.{Text, ascii, starts, span, gather, all-of}
-use Rattle.definition.specs.Facts.{Line, Fact, cut, lines, skipped}
+use Rattle.definition.specs.Facts.{Fact, cut, lines}
 use Rattle.definition.proofs.TextLaws.{no-end}
 use Rattle.facts.specs.Reading.{line-facts, facts-from, line-of}
 use Rattle.facts.proofs.ReadingLaws.{lines-dot, lines-last, lines-more}

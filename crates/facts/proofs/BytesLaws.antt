@@ -1,24 +1,21 @@
 -- Rows 1 and 2, and words that are cleared.
 use Prim.Native.Nat.{ℕ, zero, suc, _+_, _-_, _<_, _≤_}
-use mathlib.Core.Path.{_≡_, refl, sym, ap, ap₂, subst, _∙_}
+use mathlib.Core.Path.{_≡_, refl, sym, ap, _∙_}
 use mathlib.Core.List.{List, [], _∷_, _++_, append-nil}
-use mathlib.Core.Bool.{Bool, true, false, _&&_, cond, not}
+use mathlib.Core.Bool.{Bool, true, false, _&&_}
 use native.Mathlib.Numerals.{add-one}
 use native.Mathlib.Nat.{zero-add, add-zero}
 use native.Mathlib.Omega.{arith}
-use lib.Dec.{ltb}
 use lib.ListN.{length, take, drop, set, replicate}
 use lib.Seq.{drop-cons, set-at, drop-length}
 use borrow.Author.Tests.{le-ltb, lt-ltb}
-use Rattle.definition.specs.Text.{Text, ascii, starts, span, is-legal}
-use Rattle.definition.specs.Limits.{Limits, FACT-BYTES}
-use Rattle.definition.specs.Answer.{Answer, ok, refused, refusal}
-use Rattle.definition.specs.Facts.{Line, Facts, cut, lines, fact-lines, read-lines, bytes-read, read-facts}
+use Rattle.definition.specs.Text.{Text, starts, span, is-legal}
+use Rattle.definition.specs.Limits.{FACT-BYTES}
+use Rattle.definition.specs.Facts.{Line, cut, lines, fact-lines, bytes-read, read-facts}
 use Rattle.definition.specs.declared.Refusal.the-variants.{FactsTooLong, FactByte}
 use Rattle.definition.proofs.TextLaws.{no-end}
-use Rattle.texts.proofs.RunLaws.{span-within}
 use Rattle.facts.specs.declared.FactsBytes.the-variants.{Right, Wrong}
-use Rattle.facts.specs.Reading.{line-of, BytesRead}
+use Rattle.facts.specs.Reading.{BytesRead}
 use Rattle.facts.proofs.TakeLaws.{line-size}
 use Rattle.facts.proofs.ReadingLaws.{lines-dot, lines-last, lines-more}
 

@@ -1,20 +1,19 @@
 -- The elements of a line, one after another.
-use Prim.Native.Nat.{ℕ, zero, suc, _+_, _-_, _<_, _≤_}
+use Prim.Native.Nat.{ℕ, zero, suc, _+_, _-_, _<_}
 use mathlib.Core.Path.{_≡_, refl, sym, ap, subst, _∙_}
 use mathlib.Core.List.{List, [], _∷_, _++_, append-assoc, append-nil}
 use mathlib.Core.Bool.{Bool, true, false, _&&_, not, cond}
-use native.Mathlib.Nat.{add-assoc}
 use native.Mathlib.Omega.{arith}
 use lib.Dec.{eqb, leb}
-use lib.ListN.{length, take, drop}
+use lib.ListN.{take, drop}
 use lib.Seq.{drop-drop}
 use Rattle.definition.specs.Text.{Text, span, starts, some-of, is-blank}
 use Rattle.definition.specs.Limits.{ARITY, WORD-BYTES}
 use Rattle.definition.specs.Answer.{Answer, ok, refused, _>>=_}
-use Rattle.definition.specs.Facts.{Element, Word, none, one, wrong, is-inside, word, quoted-word, bare-word, on-word, elements}
+use Rattle.definition.specs.Facts.{Element, Word, none, one, wrong, is-inside, word, quoted-word, bare-word, elements}
 use Rattle.facts.specs.declared.Item.{Item}
 use Rattle.facts.specs.declared.FactLine.{FactLine}
-use Rattle.facts.specs.Lines.{element-of, elements-of, items-of, fact-of, next-word, Role, says, says-elements}
+use Rattle.facts.specs.Lines.{element-of, elements-of, items-of, fact-of, next-word, says, says-elements}
 
 -- what was found stands where it was looked for
 data Stands (p : ℕ) : Word → Type 0 where

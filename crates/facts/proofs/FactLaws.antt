@@ -1,19 +1,18 @@
 -- A fact taken in: its relation, then its elements.
 use Prim.Native.Nat.{ℕ, zero, suc, _+_, _-_, _/_, _%_, _<_, _≤_}
-use mathlib.Core.Path.{_≡_, refl, sym, ap, subst, _∙_}
-use mathlib.Core.List.{List, [], _∷_, _++_, map}
-use mathlib.Core.Bool.{Bool, true, false, cond}
+use mathlib.Core.Path.{_≡_, refl, ap, subst, _∙_}
+use mathlib.Core.List.{List, [], _∷_}
 use native.Mathlib.Omega.{arith}
-use lib.ListN.{length, getD, take, drop, length-drop}
-use lib.Seq.{length-take-le, take-take, drop-drop}
+use lib.ListN.{length, getD, take, drop}
+use lib.Seq.{length-take-le}
 use Rattle.definition.specs.Text.{Text}
-use Rattle.definition.specs.Limits.{Limits, ARITY, WORD-BYTES}
-use Rattle.definition.specs.Answer.{Answer, ok, refused, refusal}
-use Rattle.definition.specs.Facts.{Element, Fact, Facts, Relation, use-relation, use-elements, last-place, with-fact}
+use Rattle.definition.specs.Limits.{ARITY, WORD-BYTES}
+use Rattle.definition.specs.Answer.{ok, refused}
+use Rattle.definition.specs.Facts.{Relation, use-relation, last-place, with-fact}
 use Rattle.definition.specs.declared.Refusal.the-variants.{Arity, TooManyRelations, TooManyElements}
 use Rattle.definition.specs.Calls.{Part}
-use Rattle.parts.specs.Packed.{pack, text-of}
-use Rattle.parts.specs.Entries.{note, texts-of}
+use Rattle.parts.specs.Packed.{text-of}
+use Rattle.parts.specs.Entries.{note}
 use Rattle.parts.proofs.PackLaws.{pack-tag, pack-part}
 use Rattle.facts.specs.declared.Item.{Item}
 use Rattle.facts.specs.declared.FactLine.{FactLine}
@@ -21,9 +20,9 @@ use Rattle.facts.specs.declared.Counts.{Counts}
 use Rattle.facts.specs.declared.Used.the-variants.{Count, OtherArity, Full}
 use Rattle.facts.specs.declared.ElementsUsed.the-variants.{Elements, TooMany}
 use Rattle.facts.specs.declared.FactUsed.the-variants.{Fits, Refused}
-use Rattle.facts.specs.Lines.{start-of, items-of, item-at, AllWithin}
+use Rattle.facts.specs.Lines.{items-of, item-at}
 use Rattle.facts.specs.Words.{elements-at, fact-at, relation-of, relations-of, line-word}
-use Rattle.facts.specs.Pass.{limits-of, with-elements, RelationUsed, UniverseUsed, facts-of, FactTaken}
+use Rattle.facts.specs.Pass.{limits-of, RelationUsed, UniverseUsed, FactTaken}
 use Rattle.facts.proofs.UseLaws.{facts-text}
 
 -- the place of the last element
@@ -48,9 +47,6 @@ length-elements facts a (x ∷ xs) = ap suc (length-elements facts a xs)
 
 module _ (facts query : Text) (a : ℕ) (f : FactLine) (small : f .arity ≤ ARITY) (short : f .«name_len» ≤ WORD-BYTES) where
   -- the relation that the definition speaks of
-  abbrev the-relation : Relation
-  the-relation = record { name = fact-at facts a f .name; arity = length (elements-at facts a (items-of f)); text = 0; at = a }
-
   relation-line : relation-of facts query (line-word a f) ≡ record { name = fact-at facts a f .name; arity = length (elements-at facts a (items-of f)); text = 0; at = a }
   relation-line =
       let n : text-of facts query (line-word a f) ≡ take (f .«name_len») (drop a facts) = facts-text facts query a (f .«name_len») (f .arity) (omega arith) (omega arith) in
@@ -63,9 +59,6 @@ module _ (facts query : Text) (a : ℕ) (f : FactLine) (small : f .arity ≤ ARI
       rw (n, k, t, o, l)
 
   module _ (rs us : List ℕ) (c : Counts) where
-    abbrev before-rs : List ℕ
-    before-rs = take (c .relations) rs
-
     pub taken-full : (rs′ us′ : List ℕ) → RelationUsed facts query (line-word a f) rs rs′ (c .relations) Full
         → FactTaken facts query a f rs rs′ us us′ c (Refused (TooManyRelations a))
     unfolding with-fact

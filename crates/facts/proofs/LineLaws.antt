@@ -1,19 +1,19 @@
 -- What a line is, test by test.
-use Prim.Native.Nat.{ℕ, zero, suc, _+_, _<_, _≤_}
-use mathlib.Core.Path.{_≡_, refl, sym, ap, subst, _∙_}
-use mathlib.Core.List.{List, [], _∷_}
-use mathlib.Core.Bool.{Bool, true, false, _&&_, _||_, not, cond}
+use Prim.Native.Nat.{ℕ, _<_, _≤_}
+use mathlib.Core.Path.{_≡_, refl, sym, _∙_}
+use mathlib.Core.List.{[], _∷_}
+use mathlib.Core.Bool.{Bool, true, false, _||_}
 use native.Mathlib.Omega.{arith}
 use lib.Dec.{leb}
-use lib.ListN.{length, take, drop, length-take}
+use lib.ListN.{length, take, length-take}
 use borrow.Author.Tests.{leb-true, leb-false}
-use Rattle.definition.specs.Text.{Text, ascii, span, starts, all-of, is-blank, is-name}
+use Rattle.definition.specs.Text.{Text, span, starts, is-blank, is-name}
 use Rattle.definition.specs.Limits.{WORD-BYTES}
-use Rattle.definition.specs.Answer.{Answer, ok, refused}
+use Rattle.definition.specs.Answer.{refused}
 use Rattle.definition.specs.Facts.{is-inside, fact}
 use Rattle.texts.proofs.RunLaws.{span-within, all-span, not-all-span}
 use Rattle.texts.proofs.NameLaws.{name-long}
-use Rattle.facts.specs.Lines.{line-at, Role, end, skip, says, says-elements, role}
+use Rattle.facts.specs.Lines.{line-at, end, skip, says, says-elements, role}
 
 -- the name and the elements
 module _ (l : Text) (n : ℕ) (h : n ≡ span is-inside l) where

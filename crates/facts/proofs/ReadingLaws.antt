@@ -1,23 +1,23 @@
 -- The pass over the lines, one line after another.
-use Prim.Native.Nat.{ℕ, zero, suc, _+_, _-_, _<_, _≤_}
+use Prim.Native.Nat.{ℕ, suc, _+_, _-_, _<_, _≤_}
 use mathlib.Core.Path.{_≡_, refl, sym, ap, ap₂, subst, _∙_}
 use mathlib.Core.List.{List, [], _∷_, _++_, map, append-nil, append-assoc}
-use mathlib.Core.Bool.{Bool, true, false, cond, not}
+use mathlib.Core.Bool.{true, false}
 use native.Mathlib.Numerals.{add-one}
 use native.Mathlib.Omega.{arith}
 use native.Mathlib.Decide.{decLt}
-use lib.ListN.{length, getD, take, drop, drop-of-length-le}
+use lib.ListN.{length, take, drop, drop-of-length-le}
 use lib.Seq.{drop-cons, drop-drop}
 use Rattle.definition.specs.Text.{Text, ascii, starts, span, gather}
 use Rattle.definition.specs.Limits.{Limits}
-use Rattle.definition.specs.Answer.{Answer, ok, refusal}
+use Rattle.definition.specs.Answer.{ok, refusal}
 use Rattle.definition.specs.Facts.{Line, Fact, Facts, cut, lines, fact-lines, read-lines, Ascending}
 use Rattle.definition.specs.declared.Refusal.{Refusal}
 use Rattle.definition.proofs.TextLaws.{cut-line, later-lines, no-end}
 use Rattle.parts.specs.Entries.{Held, note-all, enter-all, texts-of}
 use Rattle.parts.proofs.HeldLaws.{enter-all-ascending, held-take, held-length, held-then, note-all-append, note-all-longer, enter-all-append, enter-all-longer}
 use Rattle.facts.specs.declared.Counts.{Counts}
-use Rattle.facts.specs.declared.LineTaken.the-variants.{More, Dot, Fails}
+use Rattle.facts.specs.declared.LineTaken.the-variants.{More, Fails}
 use Rattle.facts.specs.declared.FactsRead.the-variants.{Given, Refused}
 use Rattle.facts.specs.Words.{element-word, fact-word, noted, entered}
 use Rattle.facts.specs.Pass.{limits-of, facts-of}
@@ -26,9 +26,6 @@ use Rattle.facts.proofs.TakeLaws.{line-size}
 
 -- the line that starts at a and ends at e, and the lines after it
 module _ (xs : Text) (a e : ℕ) (within : a ≤ length xs) (r : e ≡ a + span no-end (drop a xs)) (b : e ≤ length xs) where
-  abbrev first : Text
-  first = take (e - a) (drop a xs)
-
   run : span no-end (drop a xs) ≡ e - a
   run = omega (arith, r)
 

@@ -1,58 +1,54 @@
 -- The use of a name after some relations, by where it stands among them.
-use Prim.Native.Nat.{ℕ, zero, suc, _+_, _<_, _≤_}
-use mathlib.Core.Path.{_≡_, refl, sym, ap, subst, _∙_}
-use mathlib.Core.List.{List, [], _∷_, _++_, map}
+use Prim.Native.Nat.{ℕ, suc, _+_, _<_, _≤_}
+use mathlib.Core.Path.{_≡_, refl, sym, ap, _∙_}
+use mathlib.Core.List.{List, [], _∷_, _++_}
 use mathlib.Core.Bool.{Bool, true, false, cond, not}
 use native.Mathlib.Numerals.{add-one}
 use native.Mathlib.Omega.{arith}
-use lib.Dec.{ltb, leb, eqb}
 use lib.ListN.{length, getD, take, drop, set, length-append}
 use lib.Seq.{length-take-le, set-split, getD-take, append-snoc}
 use borrow.Author.Tests.{le-ltb, lt-ltb, le-leb, lt-leb, eq-eqb, ne-eqb}
 use Rattle.definition.specs.Text.{Text, same, span}
-use Rattle.definition.specs.Answer.{Answer, ok, refused}
+use Rattle.definition.specs.Answer.{ok}
 use Rattle.definition.specs.Facts.{Relation, arities, add-relation, use-relation}
 use Rattle.parts.specs.Packed.{tag-of, text-of}
-use Rattle.parts.specs.Entries.{index, note, Held}
+use Rattle.parts.specs.Entries.{position, index, note}
 use Rattle.parts.proofs.HeldLaws.{held-first}
 use Rattle.facts.specs.Words.{relation-of, relations-of}
-use Rattle.facts.specs.Pass.{limits-of, RelationUsed}
+use Rattle.facts.specs.Pass.{RelationUsed}
 use Rattle.facts.specs.declared.Used.the-variants.{Count, OtherArity, Full}
 
-module _ (facts query : Text) (v : ℕ) where
-  differs : ℕ → Bool
-  differs w = not (same (text-of facts query v) (text-of facts query w))
-
-  -- the arity under which the name stands
-  known : (ws : List ℕ) → index facts query v ws < length ws
-      → arities (text-of facts query v) (relations-of facts query ws) ≡ tag-of (getD ws (index facts query v ws) 0) ∷ []
-  unfolding index span arities
-  known [] h = absurd (omega arith)
-  known (w ∷ ws) h = go (same (text-of facts query v) (text-of facts query w)) h (known ws)
+-- the arity under which a name stands, and none
+module _ (facts query t : Text) where
+  pub arity-known : (ws : List ℕ) → position facts query t ws < length ws → arities t (relations-of facts query ws) ≡ tag-of (getD ws (position facts query t ws) 0) ∷ []
+  unfolding span arities
+  arity-known [] h = absurd (omega arith)
+  arity-known (w ∷ ws) h = go (same t (text-of facts query w)) h (arity-known ws)
     where
       i : ℕ
-      i = span (λ w. not (same (text-of facts query v) (text-of facts query w))) ws
+      i = position facts query t ws
 
       go : (b : Bool) → cond (not b) (suc i) 0 < suc (length ws)
-          → (i < length ws → arities (text-of facts query v) (relations-of facts query ws) ≡ tag-of (getD ws i 0) ∷ [])
-          → cond b (tag-of w ∷ []) (arities (text-of facts query v) (relations-of facts query ws)) ≡ tag-of (getD (w ∷ ws) (cond (not b) (suc i) 0) 0) ∷ []
+          → (i < length ws → arities t (relations-of facts query ws) ≡ tag-of (getD ws i 0) ∷ [])
+          → cond b (tag-of w ∷ []) (arities t (relations-of facts query ws)) ≡ tag-of (getD (w ∷ ws) (cond (not b) (suc i) 0) 0) ∷ []
       go true h ih = refl
       go false h ih = ih (omega arith)
 
-  unknown : (ws : List ℕ) → index facts query v ws ≡ length ws → arities (text-of facts query v) (relations-of facts query ws) ≡ []
-  unfolding index span arities
-  unknown [] h = refl
-  unknown (w ∷ ws) h = go (same (text-of facts query v) (text-of facts query w)) h (unknown ws)
+  pub arity-unknown : (ws : List ℕ) → length ws ≤ position facts query t ws → arities t (relations-of facts query ws) ≡ []
+  unfolding span arities
+  arity-unknown [] h = refl
+  arity-unknown (w ∷ ws) h = go (same t (text-of facts query w)) h (arity-unknown ws)
     where
       i : ℕ
-      i = span (λ w. not (same (text-of facts query v) (text-of facts query w))) ws
+      i = position facts query t ws
 
-      go : (b : Bool) → cond (not b) (suc i) 0 ≡ suc (length ws)
-          → (i ≡ length ws → arities (text-of facts query v) (relations-of facts query ws) ≡ [])
-          → cond b (tag-of w ∷ []) (arities (text-of facts query v) (relations-of facts query ws)) ≡ []
+      go : (b : Bool) → suc (length ws) ≤ cond (not b) (suc i) 0
+          → (length ws ≤ i → arities t (relations-of facts query ws) ≡ [])
+          → cond b (tag-of w ∷ []) (arities t (relations-of facts query ws)) ≡ []
       go true h ih = absurd (omega arith)
       go false h ih = ih (omega arith)
 
+module _ (facts query : Text) (v : ℕ) where
   map-append : (ws : List ℕ) → relations-of facts query (ws ++ (v ∷ [])) ≡ relations-of facts query ws ++ (relation-of facts query v ∷ [])
   map-append [] = refl
   map-append (w ∷ ws) = ap (λ (rs : List Relation). relation-of facts query w ∷ rs) (map-append ws)
@@ -70,7 +66,8 @@ module _ (facts query : Text) (v : ℕ) where
       here = omega (arith, e, size)
 
       the-arity : arities (text-of facts query v) (relations-of facts query (take n words)) ≡ tag-of (getD words i 0) ∷ []
-      the-arity = known (take n words) here ∙ ap (λ (w : ℕ). tag-of w ∷ []) (ap (λ (k : ℕ). getD (take n words) k 0) (sym e) ∙ getD-take n words i 0 h)
+      unfolding index
+      the-arity = arity-known facts query (text-of facts query v) (take n words) here ∙ ap (λ (w : ℕ). tag-of w ∷ []) (ap (λ (k : ℕ). getD (take n words) k 0) (sym e) ∙ getD-take n words i 0 h)
 
       pub relation-other : (tag-of (getD words i 0) ≡ tag-of v → ⊥) → RelationUsed facts query v words words n OtherArity
       unfolding use-relation
@@ -88,11 +85,15 @@ module _ (facts query : Text) (v : ℕ) where
       past : index facts query v (take n words) ≡ length (take n words)
       past = omega (arith, e, size, b)
 
+      no-arity : arities (text-of facts query v) (relations-of facts query (take n words)) ≡ []
+      unfolding index
+      no-arity = arity-unknown facts query (text-of facts query v) (take n words) (omega (arith, past))
+
       pub relation-full : n ≡ length words → RelationUsed facts query v words words n Full
       unfolding use-relation add-relation
       relation-full d =
           let m : length words ≤ length (relations-of facts query (take n words)) = omega (arith, size, length-relations (take n words)) in
-          λ k p. rw (unknown (take n words) past, le-leb (length words) (length (relations-of facts query (take n words))) m)
+          λ k p. rw (no-arity, le-leb (length words) (length (relations-of facts query (take n words))) m)
 
       pub relation-new : n < length words → RelationUsed facts query v words (set words n v) n (Count (n + 1))
       unfolding use-relation note add-relation
@@ -104,7 +105,7 @@ module _ (facts query : Text) (v : ℕ) where
               room = omega arith;
               is = set-new;
             }),
-            λ k p. rw (unknown (take n words) past, lt-leb (length words) (length (relations-of facts query (take n words))) m, t) (ap ok (sym (map-append (take n words)))),
+            λ k p. rw (no-arity, lt-leb (length words) (length (relations-of facts query (take n words))) m, t) (ap ok (sym (map-append (take n words)))),
           )
         where
           set-new : set words n v ≡ take n words ++ (v ∷ []) ++ drop (n + 1) words

@@ -1,18 +1,17 @@
 -- A line taken in: what its role says of the definition's pass, and that a part of a line is a part of the text.
-use Prim.Native.Nat.{ℕ, zero, suc, _+_, _-_, _<_, _≤_}
-use mathlib.Core.Path.{_≡_, refl, sym, ap, ap₂, subst, _∙_}
-use mathlib.Core.List.{List, [], _∷_, _++_, map, append-nil}
-use mathlib.Core.Bool.{Bool, true, false, cond, _||_}
+use Prim.Native.Nat.{ℕ, zero, suc, _+_, _-_, _≤_}
+use mathlib.Core.Path.{_≡_, refl, sym, ap, ap₂, _∙_}
+use mathlib.Core.List.{List, [], _∷_, map, append-nil}
+use mathlib.Core.Bool.{Bool, true, false, cond}
 use native.Mathlib.Omega.{arith}
 use lib.ListN.{length, take, drop, length-drop}
 use lib.Seq.{length-take-le, take-take, drop-drop}
-use Rattle.definition.specs.Text.{Text, ascii, starts, gather, all-of, is-blank}
-use Rattle.definition.specs.Limits.{Limits, ARITY}
+use Rattle.definition.specs.Text.{Text, ascii, starts, gather}
 use Rattle.definition.specs.Answer.{Answer, ok, refused, refusal}
-use Rattle.definition.specs.Facts.{Line, Element, Fact, Facts, skipped, fact, with-fact, read-lines}
+use Rattle.definition.specs.Facts.{Line, Element, Fact, skipped, fact, read-lines}
 use Rattle.definition.specs.declared.Refusal.{Refusal}
 use Rattle.parts.specs.Packed.{pack}
-use Rattle.parts.specs.Entries.{Held, note, note-all, enter-all}
+use Rattle.parts.specs.Entries.{note, note-all, enter-all}
 use Rattle.parts.proofs.EntryLaws.{take-drop}
 use Rattle.parts.proofs.HeldLaws.{held-first}
 use Rattle.facts.specs.declared.Item.{Item}
@@ -20,10 +19,10 @@ use Rattle.facts.specs.declared.FactLine.{FactLine}
 use Rattle.facts.specs.declared.Counts.{Counts}
 use Rattle.facts.specs.declared.FactUsed.the-variants.{Fits, Refused}
 use Rattle.facts.specs.declared.LineTaken.the-variants.{More, Dot, Fails}
-use Rattle.facts.specs.Lines.{start-of, items-of, element-of, elements-of, fact-of, line-at, Role, end, skip, says, role, Within, AllWithin}
+use Rattle.facts.specs.Lines.{start-of, items-of, element-of, elements-of, fact-of, Role, end, skip, says, role, Within, AllWithin}
 use Rattle.facts.specs.Words.{element-at, elements-at, fact-at, item-word, line-word, element-word, fact-word}
-use Rattle.facts.specs.Pass.{limits-of, facts-of, with-elements, FactTaken}
-use Rattle.facts.specs.Reading.{answered, line-facts, line-of, Taken, more-relations, more-elements}
+use Rattle.facts.specs.Pass.{with-elements, FactTaken}
+use Rattle.facts.specs.Reading.{line-facts, line-of, Taken, more-relations, more-elements}
 use Rattle.facts.proofs.FactLaws.{length-elements}
 
 -- what a role says
@@ -103,9 +102,6 @@ offset-same true a p = omega arith
 offset-same false a p = refl
 
 module _ (facts query : Text) (a e : ℕ) (h : a ≤ e) (w : e ≤ length facts) (f : FactLine) (b : AllWithin (length (take (e - a) (drop a facts))) f) where
-  abbrev line : Text
-  line = take (e - a) (drop a facts)
-
   size : length (take (e - a) (drop a facts)) ≡ e - a
   size = line-size facts a e h w
 

@@ -10,11 +10,10 @@ use lib.ListN.{length, getD, take, drop, drop-of-length-le}
 use lib.Seq.{length-take-le, drop-cons, take-suc, getD-take, take-all}
 use borrow.Author.Tests.{le-ltb, lt-ltb}
 use Rattle.definition.specs.Text.{Text}
-use Rattle.definition.specs.Limits.{Limits, ARITY, WORD-BYTES}
-use Rattle.definition.specs.Answer.{Answer, ok, refused}
-use Rattle.definition.specs.Facts.{Element, insert, use-elements, Ascending}
+use Rattle.definition.specs.Limits.{ARITY, WORD-BYTES}
+use Rattle.definition.specs.Facts.{insert, use-elements, Ascending}
 use Rattle.definition.specs.Calls.{part-text}
-use Rattle.parts.specs.Packed.{pack, text-of, part-of}
+use Rattle.parts.specs.Packed.{pack, text-of}
 use Rattle.parts.specs.Entries.{enter, enter-all, texts-of, in-front, count-in, Held}
 use Rattle.parts.specs.declared.Entered.the-variants.{Count, Full}
 use Rattle.parts.proofs.PackLaws.{pack-part}
@@ -24,14 +23,14 @@ use Rattle.facts.specs.declared.FactLine.{FactLine}
 use Rattle.facts.specs.declared.ElementsUsed.the-variants.{Elements, TooMany}
 use Rattle.facts.specs.Lines.{start-of, items-of, item-at, Within, AllWithin}
 use Rattle.facts.specs.Words.{element-at, elements-at, item-word}
-use Rattle.facts.specs.Pass.{limits-of, with-elements, UniverseUsed}
+use Rattle.facts.specs.Pass.{limits-of, UniverseUsed}
 
 -- the text of a number that the code makes for a part of the facts
 pub facts-text : (facts query : Text) (offset len tag : ℕ) → len < 64 → tag < 4 → text-of facts query (pack 0 offset len tag) ≡ take len (drop offset facts)
 unfolding text-of
 facts-text facts query offset len tag n t = ap (part-text facts query) (pack-part 0 offset len tag (omega arith) n t)
 
-tag-small : (b : Bool) → cond b 1 0 < 4
+pub tag-small : (b : Bool) → cond b 1 0 < 4
 tag-small true = omega arith
 tag-small false = omega arith
 
@@ -52,9 +51,6 @@ third-item f (suc (suc (suc i))) a b = refl
 
 -- the items of a fact, from the place i on
 module _ (f : FactLine) (small : f .arity ≤ ARITY) (i : ℕ) (h : i < f .arity) where
-  all-items : List Item
-  all-items = f .first ∷ f .second ∷ f .third ∷ []
-
   inside : i < length (items-of f)
   inside = rw (length-take-le (f .arity) (f .first ∷ f .second ∷ f .third ∷ []) small) h
 

@@ -1,17 +1,17 @@
 -- What stands at a place of a line, by the ends of the runs of bytes from there.
 use Prim.Native.Nat.{ℕ, zero, suc, _+_, _-_, _<_, _≤_}
-use mathlib.Core.Path.{_≡_, refl, sym, ap, subst, _∙_}
-use mathlib.Core.List.{List, [], _∷_}
+use mathlib.Core.Path.{_≡_, refl, sym, ap, _∙_}
+use mathlib.Core.List.{[], _∷_}
 use mathlib.Core.Bool.{Bool, true, false, _&&_, not, cond}
 use native.Mathlib.Numerals.{add-one}
 use native.Mathlib.Nat.{add-assoc}
 use native.Mathlib.Omega.{arith}
-use lib.Dec.{eqb, leb}
+use lib.Dec.{eqb}
 use lib.ListN.{length, getD, take, drop, drop-of-length-le, length-drop}
 use lib.Seq.{drop-cons, drop-drop}
 use borrow.Author.Tests.{eq-eqb, ne-eqb, le-leb, lt-leb, eqb-true, eqb-false}
 use Rattle.definition.specs.Text.{Text, span, starts, some-of, is-blank}
-use Rattle.definition.specs.Facts.{Element, Word, none, one, wrong, is-inside, word, quoted-word, bare-word}
+use Rattle.definition.specs.Facts.{none, one, wrong, is-inside, word, quoted-word, bare-word}
 use Rattle.facts.specs.Lines.{element-of, next-word}
 
 abbrev pub no-quote : ℕ → Bool

@@ -1,8 +1,7 @@
 -- What the line reader answers, as what the definition says of the line.
-use Prim.Native.Nat.{ℕ, suc, _+_, _≤_}
-use mathlib.Core.Bool.{Bool, true, false, cond}
+use Prim.Native.Nat.{ℕ, _+_, _≤_}
 use mathlib.Core.List.{List, [], _∷_, map}
-use lib.ListN.{length, getD, take, drop}
+use lib.ListN.{getD, take, drop}
 use Rattle.definition.specs.Text.{if_then_else_, Text, ascii, starts, span, is-blank}
 use Rattle.definition.specs.Limits.{WORD-BYTES, ARITY}
 use Rattle.definition.specs.Answer.{Answer, ok, refused, _>>=_}

@@ -5,10 +5,10 @@ use mathlib.Core.List.{List, [], _∷_, _++_, map}
 use lib.ListN.{length, take}
 use Rattle.definition.specs.Text.{Text}
 use Rattle.definition.specs.Limits.{Limits}
-use Rattle.definition.specs.Answer.{Answer, ok, refused, refusal}
+use Rattle.definition.specs.Answer.{ok, refused, refusal}
 use Rattle.definition.specs.Facts.{Fact, Facts, use-relation, use-elements, with-fact}
 use Rattle.parts.specs.Entries.{Held, note, enter-all, texts-of}
-use Rattle.facts.specs.Words.{relation-of, relations-of, element-at, elements-at, fact-at, item-word, line-word}
+use Rattle.facts.specs.Words.{relation-of, relations-of, elements-at, fact-at, item-word, line-word}
 use Rattle.facts.specs.Lines.{items-of}
 use Rattle.facts.specs.declared.FactLine.{FactLine}
 use Rattle.facts.specs.declared.Counts.{Counts}

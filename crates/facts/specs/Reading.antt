@@ -1,7 +1,7 @@
 -- The facts of a text, line by line, and what the pass over its lines answers.
 use Prim.Native.Nat.{ℕ, _-_, _≤_}
 use mathlib.Core.Path.{_≡_}
-use mathlib.Core.Bool.{Bool, true, false}
+use mathlib.Core.Bool.{true, false}
 use mathlib.Core.List.{List, [], _∷_, _++_, map}
 use lib.ListN.{length, take, drop, replicate}
 use Rattle.definition.specs.Text.{if_then_else_, Text, ascii, starts, gather}

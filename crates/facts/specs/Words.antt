@@ -1,6 +1,6 @@
 -- Names and elements of the facts as numbers, and the lists of them that the definition's facts give.
 use Prim.Native.Nat.{ℕ, suc, _+_, _/_, _%_}
-use mathlib.Core.List.{List, [], _∷_, map}
+use mathlib.Core.List.{List, [], map}
 use lib.ListN.{length, take, drop}
 use Rattle.definition.specs.Text.{if_then_else_, Text, gather}
 use Rattle.definition.specs.Facts.{Element, Fact, Relation}

@@ -7,7 +7,7 @@ ghost use Rattle.definition.specs.Text.{Text, starts};
 ghost use Rattle.definition.specs.Limits.{ARITY, WORD-BYTES, FACT-BYTES};
 ghost use Rattle.definition.specs.Facts.{word, fact, last-place, fact-lines, bytes-read, Ascending};
 ghost use Rattle.parts.specs.Entries.{texts-of};
-ghost use Rattle.facts.specs.Lines.{Within, AllWithin, NextWithin, ReadWithin, items-of, item-at, line-at, next-word, word-of, Role, says, says-elements, role, role-of};
+ghost use Rattle.facts.specs.Lines.{start-of, Within, AllWithin, NextWithin, ReadWithin, items-of, item-at, line-at, next-word, word-of, says, says-elements, role, role-of};
 ghost use Rattle.facts.specs.Words.{elements-at, item-word};
 ghost use Rattle.facts.specs.Pass.{RelationUsed, UniverseUsed, FactTaken};
 ghost use Rattle.facts.specs.Reading.{line-of, Taken, LinesRead, BytesRead, Meets};
@@ -272,16 +272,24 @@ fn item_at(f: FactLine, i: usize) -> Item
     }
 }
 
+// Where an element's value starts in its line: past the quote, if there is one.
+pub fn value_start(x: Item) -> usize
+    requires { ⌜ x .place ≤ FACT-BYTES ⌝ }
+    ensures { λ r. ⌜ (r ≡ start-of x) × (r ≤ FACT-BYTES + 1) ⌝ }
+{
+    let p = x.place;
+    if x.quoted {
+        return p + 1;
+    }
+    p
+}
+
 // The number of an element of the line that starts at a.
 fn element_word(a: usize, x: Item) -> usize
     requires { ⌜ (a ≤ FACT-BYTES) × (x .place ≤ FACT-BYTES) × (x .len ≤ WORD-BYTES) ⌝ }
     ensures { λ r. ⌜ r ≡ item-word a x ⌝ }
 {
-    let p = x.place;
-    if x.quoted {
-        return packed(0, a + (p + 1), x.len, 1);
-    }
-    packed(0, a + p, x.len, 0)
+    packed(0, a + value_start(x), x.len, x.quoted as usize)
 }
 
 // How many elements there are after a fact, or the place of the one for which there is no room.

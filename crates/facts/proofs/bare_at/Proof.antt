@@ -1,7 +1,6 @@
 use borrow.Author.Needs.{needs}
 use Rattle.facts.proofs.bare_at.Statement.{statement}
 use Rattle.facts.proofs.bare_at.Tie as tie
-use mathlib.Core.Path.{_≡_, sym, _∙_}
 use native.Mathlib.Omega.{arith}
 use Rattle.facts.proofs.WordLaws.{bare-long-at, bare-quote-at, bare-good-at}
 

@@ -1,10 +1,9 @@
 use Rattle.facts.proofs.clear.Statement.{statement}
 use Rattle.facts.proofs.clear.Tie as tie
 use borrow.Author.Needs.{needs}
-use Prim.Native.Nat.{_≤_, _-_}
-use mathlib.Core.Path.{_≡_, refl, sym, ap, subst, _∙_}
+use Prim.Native.Nat.{_-_}
+use mathlib.Core.Path.{_≡_, refl}
 use native.Mathlib.Omega.{arith}
-use denote.Ref.{now}
 use lib.ListN.{length}
 use lib.ListN.{length-set}
 use Rattle.facts.proofs.BytesLaws.{Cleared, cleared-none, cleared-one, cleared-all}

@@ -1,37 +1,35 @@
 use borrow.Author.Needs.{needs}
+use Prim.Native.Nat.{ℕ, _+_, _<_}
+use mathlib.Core.Path.{_≡_, refl, sym, ap₂, subst, _∙_}
+use mathlib.Core.Bool.{Bool, true, false, cond}
+use native.Mathlib.Omega.{arith}
+use mir.Val.{boolByte}
+use Rattle.parts.specs.Packed.{pack}
+use Rattle.facts.proofs.UseLaws.{tag-small}
 use Rattle.facts.proofs.element_word.Statement.{statement}
 use Rattle.facts.proofs.element_word.Tie as tie
-use mathlib.Core.Path.{_∙_}
+
+-- the number of a bool is the tag
+tag-is : (b : Bool) → boolByte b ≡ cond b 1 0
+tag-is true = refl
+tag-is false = refl
+
+value-start-requires : tie.Need-value-start-requires
+value-start-requires c κs = search needs
 
 add-packed : tie.Need-add-packed
 add-packed c = search needs
 
-add-packed-2 : tie.Need-add-packed-2
-add-packed-2 c = search needs
+cast-packed : tie.Need-cast-packed
+cast-packed c = search needs
 
 packed-requires : tie.Need-packed-requires
-packed-requires c κs = search needs
+packed-requires c κs = (omega arith, omega arith, omega arith, let q = c .before .before .args .x .quoted in subst (λ (k : ℕ). k < 4) (sym (tag-is q)) (tag-small q))
 
 returns : tie.Need-returns
-returns c = c .packed .ensures ∙ simp (c .before .if1 .taken)
-
-add-packed-3 : tie.Need-add-packed-3
-add-packed-3 c = search needs
-
-packed-requires-2 : tie.Need-packed-requires-2
-packed-requires-2 c κs = search needs
-
-returns-2 : tie.Need-returns-2
-returns-2 c = c .packed2 .ensures ∙ simp (c .before .if1 .left)
+returns c =
+    let a = c .before .before .before .args in
+    c .packed .ensures ∙ ap₂ (λ (i k : ℕ). pack 0 (a .a + i) (a .x .len) k) (c .before .before .value-start .ensures .0) (tag-is (a .x .quoted))
 
 pub element-word-spec : {M : Type 1} → statement M
-element-word-spec =
-    tie.close
-    (tie.spec
-    add-packed
-    add-packed-2
-    packed-requires
-    returns
-    add-packed-3
-    packed-requires-2
-    returns-2)
+element-word-spec = tie.close (tie.spec value-start-requires add-packed cast-packed packed-requires returns)

@@ -1,8 +1,7 @@
 use borrow.Author.Needs.{needs}
 use Rattle.facts.proofs.next_at.Statement.{statement}
 use Rattle.facts.proofs.next_at.Tie as tie
-use mathlib.Core.Path.{_≡_, sym, _∙_}
-use native.Mathlib.Omega.{arith}
+use mathlib.Core.Path.{_∙_}
 use Rattle.facts.proofs.WordLaws.{next-is, next-nothing}
 
 run-end-requires : tie.Need-run-end-requires

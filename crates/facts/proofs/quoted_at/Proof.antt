@@ -1,7 +1,6 @@
 use borrow.Author.Needs.{needs}
 use Rattle.facts.proofs.quoted_at.Statement.{statement}
 use Rattle.facts.proofs.quoted_at.Tie as tie
-use mathlib.Core.Path.{_≡_, sym, _∙_}
 use native.Mathlib.Omega.{arith}
 use Rattle.facts.proofs.WordLaws.{quoted-open-at, quoted-long-at, quoted-joined-at, quoted-good-at}
 

@@ -2,11 +2,11 @@ use Rattle.facts.proofs.read_elements.Statement.{statement}
 use Rattle.facts.proofs.read_elements.Tie as tie
 use borrow.Author.Needs.{needs}
 use Prim.Native.Nat.{_≤_, _-_}
-use mathlib.Core.Path.{_≡_, refl, sym, ap, subst, _∙_}
+use mathlib.Core.Path.{_≡_, refl, ap, subst, _∙_}
 use native.Mathlib.Omega.{arith}
 use lib.ListN.{length}
 use Rattle.definition.specs.Limits.{ARITY}
-use Rattle.facts.specs.Lines.{Within, AllWithin, NextWithin, word-of}
+use Rattle.facts.specs.Lines.{AllWithin, NextWithin, word-of}
 use Rattle.facts.proofs.ElementLaws.{ReadTo, read-start, read-nothing, read-wrong, read-many, read-more}
 use Prim.Native.Nat.{ℕ}
 use denote.Ref.{now}

@@ -2,7 +2,7 @@ use borrow.Author.Needs.{needs}
 use native.Mathlib.Nat.{zero-add}
 use Rattle.facts.proofs.read_line.Statement.{statement}
 use Rattle.facts.proofs.read_line.Tie as tie
-use mathlib.Core.Path.{_≡_, sym, _∙_}
+use mathlib.Core.Path.{sym, _∙_}
 use native.Mathlib.Omega.{arith}
 use Rattle.facts.proofs.LineLaws.{role-end, role-comment, role-blank, role-fact}
 

@@ -2,7 +2,7 @@ use Rattle.facts.proofs.read_lines.Statement.{statement}
 use Rattle.facts.proofs.read_lines.Tie as tie
 use borrow.Author.Needs.{needs}
 use Prim.Native.Nat.{_≤_, _-_}
-use mathlib.Core.Path.{_≡_, refl, sym, ap, subst, _∙_}
+use mathlib.Core.Path.{_≡_, refl, subst}
 use mathlib.Core.List.{List}
 use native.Mathlib.Omega.{arith}
 use denote.Ref.{now}
@@ -10,7 +10,7 @@ use lib.ListN.{length, drop}
 use Rattle.definition.specs.Facts.{Line, cut, lines}
 use Rattle.parts.proofs.HeldLaws.{held-length}
 use Rattle.facts.specs.Reading.{line-of, Taken}
-use Rattle.facts.proofs.ReadingLaws.{lines-dot, lines-last, lines-more, Reading, reading-start, reading-ascending, reading-end, reading-fails, reading-more}
+use Rattle.facts.proofs.ReadingLaws.{lines-dot, lines-last, lines-more, Reading, reading-start, reading-ascending, reading-end, reading-more}
 use Rattle.facts.proofs.ReadingLaws.{fails-at}
 
 abbrev Inv-loop : tie.InvT-loop
