@@ -49,17 +49,25 @@ add-t13 c = search needs
 
 returns : tie.Need-returns Inv-loop μ-loop
 returns c =
-    let t = (subst (FactOfLine (take (c .before .before .before .before .before .run-end .result - c .before .before .before .before .before .before .before .loop .a) (drop (c .before .before .before .before .before .before .before .loop .a) (now (c .before .before .before .before .before .before .before .before .before .args .facts))))) (c .before .f .given .1) (c .before .before .before .line-fact .ensures)) in
-    let w = what (now (c .before .before .before .before .before .before .before .before .before .args .facts)) (now (c .before .before .before .before .before .before .before .before .before .args .facts)) (c .before .before .before .before .before .before .before .loop .a) (c .before .before .before .before .before .run-end .result) (c .before .before .before .before .before .run-end .ensures .1 .0) (c .before .before .before .before .before .run-end .ensures .1 .1) (c .before .f .given .0 .0) (t .0) (t .1 (c .before .before .before .before .before .before .before .loop .a)) [] [] [] [] no-counts in
-    let g = gives (now (c .before .before .before .before .before .before .before .before .before .args .facts)) (now (c .before .before .before .before .before .before .before .before .before .args .facts)) (c .before .before .before .before .before .before .before .loop .a) (c .before .before .before .before .before .run-end .result) (c .before .before .before .before .before .run-end .ensures .1 .0) (c .before .before .before .before .before .run-end .ensures .1 .1) (c .before .f .given .0 .0) (t .0) (t .1 (c .before .before .before .before .before .before .before .loop .a)) [] [] [] [] no-counts in
-    let s : facts-from (now (c .before .before .before .before .before .before .before .before .before .args .facts)) (c .before .before .before .before .before .before .before .loop .a) ≡ fact-at (now (c .before .before .before .before .before .before .before .before .before .args .facts)) (c .before .before .before .before .before .before .before .loop .a) (c .before .f .given .0 .0) ∷ facts-from (now (c .before .before .before .before .before .before .before .before .before .args .facts)) (c .before .before .before .before .before .run-end .result + 1) = facts-step (now (c .before .before .before .before .before .before .before .before .before .args .facts)) (c .before .before .before .before .before .before .before .loop .a) (c .before .before .before .before .before .run-end .result) (omega (arith, c .before .before .before .before .before .before .loop-test .taken)) (c .before .before .before .before .before .run-end .ensures .0) (c .before .before .before .before .before .run-end .ensures .1 .1) (w .0) ∙ rw g in
-    (c .before .before .before .before .before .before .before .loop .inv .1 ∙ s, c .before .before .before .before .before .before .before .loop .inv .0, omega (arith, c .before .before .before .before .before .run-end .ensures .1), omega (arith, c .before .before .before .before .before .before .loop-test .taken), all-wider _ _ _ (omega (arith, line-size (now (c .before .before .before .before .before .before .before .before .before .args .facts)) (c .before .before .before .before .before .before .before .loop .a) (c .before .before .before .before .before .run-end .result) (c .before .before .before .before .before .run-end .ensures .1 .0) (c .before .before .before .before .before .run-end .ensures .1 .1), c .before .before .before .before .before .run-end .ensures .1)) (t .0))
+    let s2 = c .before .before .before .before .before .before .before .before .before in
+    let l = c .before .before .before .before .before .before .before .loop in
+    let test = c .before .before .before .before .before .before .loop-test in
+    let run-end = c .before .before .before .before .before .run-end in
+    let t = (subst (FactOfLine (take (run-end .result - l .a) (drop (l .a) (s2 .args .facts .now)))) (c .before .f .given .1) (c .before .before .before .line-fact .ensures)) in
+    let w = what (s2 .args .facts .now) (s2 .args .facts .now) (l .a) (run-end .result) (run-end .ensures .1 .0) (run-end .ensures .1 .1) (c .before .f .given .0 .0) (t .0) (t .1 (l .a)) [] [] [] [] no-counts in
+    let g = gives (s2 .args .facts .now) (s2 .args .facts .now) (l .a) (run-end .result) (run-end .ensures .1 .0) (run-end .ensures .1 .1) (c .before .f .given .0 .0) (t .0) (t .1 (l .a)) [] [] [] [] no-counts in
+    let s : facts-from (s2 .args .facts .now) (l .a) ≡ fact-at (s2 .args .facts .now) (l .a) (c .before .f .given .0 .0) ∷ facts-from (s2 .args .facts .now) (run-end .result + 1) = facts-step (s2 .args .facts .now) (l .a) (run-end .result) (omega (arith, test .taken)) (run-end .ensures .0) (run-end .ensures .1 .1) (w .0) ∙ rw g in
+    (l .inv .1 ∙ s, l .inv .0, omega (arith, run-end .ensures .1), omega (arith, test .taken), all-wider _ _ _ (omega (arith, line-size (s2 .args .facts .now) (l .a) (run-end .result) (run-end .ensures .1 .0) (run-end .ensures .1 .1), run-end .ensures .1)) (t .0))
 
 enum-told : tie.Need-enum-told Inv-loop μ-loop
 enum-told c = search needs
 
 returns-2 : tie.Need-returns-2 Inv-loop μ-loop
-returns-2 c = c .before .before .before .before .before .before .loop .inv .1 ∙ facts-dot (now (c .before .before .before .before .before .before .before .before .args .facts)) (c .before .before .before .before .before .before .loop .a) (c .before .before .before .before .run-end .result) (omega (arith, c .before .before .before .before .before .loop-test .taken)) (c .before .before .before .before .run-end .ensures .0) (c .before .before .before .before .run-end .ensures .1 .1) (subst (FactOfLine (take (c .before .before .before .before .run-end .result - c .before .before .before .before .before .before .loop .a) (drop (c .before .before .before .before .before .before .loop .a) (now (c .before .before .before .before .before .before .before .before .args .facts))))) (c .enum-told .given .1) (c .before .before .line-fact .ensures))
+returns-2 c =
+    let s = c .before .before .before .before .before .before .before .before in
+    let l = c .before .before .before .before .before .before .loop in
+    let run-end = c .before .before .before .before .run-end in
+    l .inv .1 ∙ facts-dot (s .args .facts .now) (l .a) (run-end .result) (omega (arith, c .before .before .before .before .before .loop-test .taken)) (run-end .ensures .0) (run-end .ensures .1 .1) (subst (FactOfLine (take (run-end .result - l .a) (drop (l .a) (s .args .facts .now)))) (c .enum-told .given .1) (c .before .before .line-fact .ensures))
 
 enum-told-2 : tie.Need-enum-told-2 Inv-loop μ-loop
 enum-told-2 c = search needs
@@ -71,7 +79,11 @@ loop-less : tie.Need-loop-less Inv-loop μ-loop
 loop-less c = omega (arith, c .before .before .before .before .run-end .ensures .1, c .before .before .before .before .before .loop-test .taken)
 
 loop-again : tie.Need-loop-again Inv-loop μ-loop
-loop-again c = let t = (subst (FactOfLine (take (c .before .before .before .before .run-end .result - c .before .before .before .before .before .before .loop .a) (drop (c .before .before .before .before .before .before .loop .a) (now (c .before .before .before .before .before .before .before .before .args .facts))))) (c .enum-told2 .given .1) (c .before .before .line-fact .ensures)) (c .before .before .before .before .before .before .loop .a) in let s : facts-from (now (c .before .before .before .before .before .before .before .before .args .facts)) (c .before .before .before .before .before .before .loop .a) ≡ facts-from (now (c .before .before .before .before .before .before .before .before .args .facts)) (c .before .before .before .before .run-end .result + 1) = facts-step (now (c .before .before .before .before .before .before .before .before .args .facts)) (c .before .before .before .before .before .before .loop .a) (c .before .before .before .before .run-end .result) (omega (arith, c .before .before .before .before .before .loop-test .taken)) (c .before .before .before .before .run-end .ensures .0) (c .before .before .before .before .run-end .ensures .1 .1) (t .0) ∙ rw (t .1) in (omega (arith, c .before .before .before .before .before .before .loop .inv .0, c .before .before .before .before .run-end .ensures .1), c .before .before .before .before .before .before .loop .inv .1 ∙ s)
+loop-again c =
+    let s2 = c .before .before .before .before .before .before .before .before in
+    let l = c .before .before .before .before .before .before .loop in
+    let run-end = c .before .before .before .before .run-end in
+    let t = (subst (FactOfLine (take (run-end .result - l .a) (drop (l .a) (s2 .args .facts .now)))) (c .enum-told2 .given .1) (c .before .before .line-fact .ensures)) (l .a) in let s : facts-from (s2 .args .facts .now) (l .a) ≡ facts-from (s2 .args .facts .now) (run-end .result + 1) = facts-step (s2 .args .facts .now) (l .a) (run-end .result) (omega (arith, c .before .before .before .before .before .loop-test .taken)) (run-end .ensures .0) (run-end .ensures .1 .1) (t .0) ∙ rw (t .1) in (omega (arith, l .inv .0, run-end .ensures .1), l .inv .1 ∙ s)
 
 returns-3 : tie.Need-returns-3 Inv-loop μ-loop
 returns-3 c = c .before .loop .inv .1 ∙ facts-end _ _ (c .loop-test .left)

@@ -65,7 +65,9 @@ loop-less : tie.Need-loop-less Inv-loop μ-loop
 loop-less c = omega (arith, c .before .before .before .before .before .before .loop .inv .2 .arity, c .before .if1 .left, c .with-item .ensures)
 
 loop-again : tie.Need-loop-again Inv-loop μ-loop
-loop-again c = (bounds (c .before .before .before) .1, c .with-item .ensures .0 ∙ c .before .before .before .before .before .before .loop .inv .1, c .with-item .ensures .1 .1 .1 _ (c .before .before .before .before .before .before .loop .inv .2) (bounds (c .before .before .before) .0), read-more _ _ _ _ (c .before .before .before .before .before .before .loop .inv .1) (c .before .before .before .before .before .before .loop .inv .3) _ _ (found (c .before .before .before)) _ (omega (arith, c .before .before .before .before .before .before .loop .inv .2 .arity, c .before .if1 .left)) (c .with-item .ensures .1 .0) (c .with-item .ensures .1 .1 .0))
+loop-again c =
+    let l = c .before .before .before .before .before .before .loop in
+    (bounds (c .before .before .before) .1, c .with-item .ensures .0 ∙ l .inv .1, c .with-item .ensures .1 .1 .1 _ (l .inv .2) (bounds (c .before .before .before) .0), read-more _ _ _ _ (l .inv .1) (l .inv .3) _ _ (found (c .before .before .before)) _ (omega (arith, l .inv .2 .arity, c .before .if1 .left)) (c .with-item .ensures .1 .0) (c .with-item .ensures .1 .1 .0))
 
 pub read-elements-spec : {M : Type 1} → statement M
 read-elements-spec =

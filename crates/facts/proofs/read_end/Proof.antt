@@ -39,7 +39,10 @@ add-result : tie.Need-add-result Inv-loop μ-loop
 add-result c = omega arith
 
 returns-2 : tie.Need-returns-2 Inv-loop μ-loop
-returns-2 c = to-last (now (c .before .before .before .before .before .before .before .args .facts)) (c .before .before .before .before .before .loop .a) (c .before .before .before .before .run-end .result) (c .before .before .before .before .before .loop .inv .0) (c .before .before .before .before .run-end .ensures .0) (c .before .before .before .before .run-end .ensures .1 .1) (c .before .before .before .before .before .loop .inv .1) (sym (c .before .before .starts-with .ensures) ∙ c .before .if1 .left) (c .if2 .taken)
+returns-2 c =
+    let l = c .before .before .before .before .before .loop in
+    let run-end = c .before .before .before .before .run-end in
+    to-last (now (c .before .before .before .before .before .before .before .args .facts)) (l .a) (run-end .result) (l .inv .0) (run-end .ensures .0) (run-end .ensures .1 .1) (l .inv .1) (sym (c .before .before .starts-with .ensures) ∙ c .before .if1 .left) (c .if2 .taken)
 
 add-a : tie.Need-add-a Inv-loop μ-loop
 add-a c = omega arith
@@ -48,7 +51,10 @@ loop-less : tie.Need-loop-less Inv-loop μ-loop
 loop-less c = omega arith
 
 loop-again : tie.Need-loop-again Inv-loop μ-loop
-loop-again c = (omega arith, to-next (now (c .before .before .before .before .before .before .before .args .facts)) (c .before .before .before .before .before .loop .a) (c .before .before .before .before .run-end .result) (c .before .before .before .before .before .loop .inv .0) (c .before .before .before .before .run-end .ensures .0) (c .before .before .before .before .run-end .ensures .1 .1) (c .before .before .before .before .before .loop .inv .1) (sym (c .before .before .starts-with .ensures) ∙ c .before .if1 .left) (omega arith))
+loop-again c =
+    let l = c .before .before .before .before .before .loop in
+    let run-end = c .before .before .before .before .run-end in
+    (omega arith, to-next (now (c .before .before .before .before .before .before .before .args .facts)) (l .a) (run-end .result) (l .inv .0) (run-end .ensures .0) (run-end .ensures .1 .1) (l .inv .1) (sym (c .before .before .starts-with .ensures) ∙ c .before .if1 .left) (omega arith))
 
 pub read-end-spec : {M : Type 1} → statement M
 read-end-spec =

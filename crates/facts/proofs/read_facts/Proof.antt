@@ -46,7 +46,9 @@ same-length-2 : tie.Need-same-length-2
 same-length-2 c = search needs
 
 returns : tie.Need-returns
-returns c = ((subst (BytesRead (now (c .before .before .before .before .before .before .before .before .before .before .before .before .before .before .before .before .args .facts)) (now (c .before .before .before .before .before .before .before .before .before .before .before .before .before .before .before .before .args .query))) (c .before .before .before .before .before .before .before .before .before .q .given .1) (c .before .before .before .before .before .before .before .before .before .before .before .check-bytes .ensures)) (limits-of (length (now (c .before .before .before .before .before .before .before .before .before .before .before .before .before .before .before .before .args .relations))) (length (now (c .before .before .before .before .before .before .before .before .before .before .before .before .before .before .before .before .args .universe)))), c .before .before .before .before .before .before .clear .ensures, c .before .before .clear2 .ensures)
+returns c =
+    let s = c .before .before .before .before .before .before .before .before .before .before .before .before .before .before .before .before in
+    ((subst (BytesRead (s .args .facts .now) (s .args .query .now)) (c .before .before .before .before .before .before .before .before .before .q .given .1) (c .before .before .before .before .before .before .before .before .before .before .before .check-bytes .ensures)) (limits-of (length (s .args .relations .now)) (length (s .args .universe .now))), c .before .before .before .before .before .before .clear .ensures, c .before .before .clear2 .ensures)
 
 same-length-3 : tie.Need-same-length-3
 same-length-3 c = search needs
@@ -56,9 +58,11 @@ same-length-4 c = search needs
 
 returns-2 : tie.Need-returns-2
 returns-2 c =
-    let r : length (c .before .before .before .before .before .before .before .before .before .before .before .before .before .before .before .read-lines .last .1 .1 .0) ≡ length (now (c .before .before .before .before .before .before .before .before .before .before .before .before .before .before .before .before .before .before .before .before .before .before .before .before .before .args .relations)) = omega arith in
-    let u : length (c .before .before .before .before .before .before .before .before .before .before .before .before .before .before .before .read-lines .last .1 .1 .1 .0) ≡ length (now (c .before .before .before .before .before .before .before .before .before .before .before .before .before .before .before .before .before .before .before .before .before .before .before .before .before .args .universe)) = omega arith in
-    ((subst (BytesRead (now (c .before .before .before .before .before .before .before .before .before .before .before .before .before .before .before .before .before .before .before .before .before .before .before .before .before .args .facts)) (now (c .before .before .before .before .before .before .before .before .before .before .before .before .before .before .before .before .before .before .before .before .before .before .before .before .before .args .query))) (c .before .before .before .before .before .before .before .before .before .before .before .before .before .before .before .before .before .before .enum-told .given .1) (c .before .before .before .before .before .before .before .before .before .before .before .before .before .before .before .before .before .before .before .before .check-bytes .ensures)) .1 (limits-of (length (now (c .before .before .before .before .before .before .before .before .before .before .before .before .before .before .before .before .before .before .before .before .before .before .before .before .before .args .relations))) (length (now (c .before .before .before .before .before .before .before .before .before .before .before .before .before .before .before .before .before .before .before .before .before .before .before .before .before .args .universe)))) ∙ (subst (LinesRead (now (c .before .before .before .before .before .before .before .before .before .before .before .before .before .before .before .before .before .before .before .before .before .before .before .before .before .args .facts)) (now (c .before .before .before .before .before .before .before .before .before .before .before .before .before .before .before .before .before .before .before .before .before .before .before .before .before .args .query)) (now (c .before .before .before .before .before .before .before .before .before .before .before .before .before .before .before .before .before .before .before .before .before .before .before .before .before .args .relations)) (c .before .before .before .before .before .before .before .before .before .before .before .before .before .before .before .read-lines .last .1 .1 .0) (now (c .before .before .before .before .before .before .before .before .before .before .before .before .before .before .before .before .before .before .before .before .before .before .before .before .before .args .universe)) (c .before .before .before .before .before .before .before .before .before .before .before .before .before .before .before .read-lines .last .1 .1 .1 .0)) (c .before .before .before .before .before .before .before .before .before .q2 .given .1) (c .before .before .before .before .before .before .before .before .before .before .before .before .before .before .before .read-lines .ensures)), c .before .before .before .before .before .before .clear3 .ensures ∙ ap (λ (k : ℕ). replicate k 0) r, c .before .before .clear4 .ensures ∙ ap (λ (k : ℕ). replicate k 0) u)
+    let s = c .before .before .before .before .before .before .before .before .before .before .before .before .before .before .before .before .before .before .before .before .before .before .before .before .before in
+    let read-lines = c .before .before .before .before .before .before .before .before .before .before .before .before .before .before .before .read-lines in
+    let r : length (read-lines .last .1 .1 .0) ≡ length (s .args .relations .now) = omega arith in
+    let u : length (read-lines .last .1 .1 .1 .0) ≡ length (s .args .universe .now) = omega arith in
+    ((subst (BytesRead (s .args .facts .now) (s .args .query .now)) (c .before .before .before .before .before .before .before .before .before .before .before .before .before .before .before .before .before .before .enum-told .given .1) (c .before .before .before .before .before .before .before .before .before .before .before .before .before .before .before .before .before .before .before .before .check-bytes .ensures)) .1 (limits-of (length (s .args .relations .now)) (length (s .args .universe .now))) ∙ (subst (LinesRead (s .args .facts .now) (s .args .query .now) (s .args .relations .now) (read-lines .last .1 .1 .0) (s .args .universe .now) (read-lines .last .1 .1 .1 .0)) (c .before .before .before .before .before .before .before .before .before .q2 .given .1) (read-lines .ensures)), c .before .before .before .before .before .before .clear3 .ensures ∙ ap (λ (k : ℕ). replicate k 0) r, c .before .before .clear4 .ensures ∙ ap (λ (k : ℕ). replicate k 0) u)
 
 same-length-5 : tie.Need-same-length-5
 same-length-5 c = search needs
@@ -67,7 +71,10 @@ same-length-6 : tie.Need-same-length-6
 same-length-6 c = search needs
 
 returns-3 : tie.Need-returns-3
-returns-3 c = let g = (subst (LinesRead (now (c .before .before .before .before .before .before .before .before .before .before .before .before .before .before .before .before .before .args .facts)) (now (c .before .before .before .before .before .before .before .before .before .before .before .before .before .before .before .before .before .args .query)) (now (c .before .before .before .before .before .before .before .before .before .before .before .before .before .before .before .before .before .args .relations)) (c .before .before .before .before .before .before .before .read-lines .last .1 .1 .0) (now (c .before .before .before .before .before .before .before .before .before .before .before .before .before .before .before .before .before .args .universe)) (c .before .before .before .before .before .before .before .read-lines .last .1 .1 .1 .0)) (c .before .c .given .1) (c .before .before .before .before .before .before .before .read-lines .ensures)) in ((subst (BytesRead (now (c .before .before .before .before .before .before .before .before .before .before .before .before .before .before .before .before .before .args .facts)) (now (c .before .before .before .before .before .before .before .before .before .before .before .before .before .before .before .before .before .args .query))) (c .before .before .before .before .before .before .before .before .before .before .enum-told .given .1) (c .before .before .before .before .before .before .before .before .before .before .before .before .check-bytes .ensures)) .1 (limits-of (length (now (c .before .before .before .before .before .before .before .before .before .before .before .before .before .before .before .before .before .args .relations))) (length (now (c .before .before .before .before .before .before .before .before .before .before .before .before .before .before .before .before .before .args .universe)))) ∙ g .0, g .1, g .2)
+returns-3 c =
+    let s = c .before .before .before .before .before .before .before .before .before .before .before .before .before .before .before .before .before in
+    let read-lines = c .before .before .before .before .before .before .before .read-lines in
+    let g = (subst (LinesRead (s .args .facts .now) (s .args .query .now) (s .args .relations .now) (read-lines .last .1 .1 .0) (s .args .universe .now) (read-lines .last .1 .1 .1 .0)) (c .before .c .given .1) (read-lines .ensures)) in ((subst (BytesRead (s .args .facts .now) (s .args .query .now)) (c .before .before .before .before .before .before .before .before .before .before .enum-told .given .1) (c .before .before .before .before .before .before .before .before .before .before .before .before .check-bytes .ensures)) .1 (limits-of (length (s .args .relations .now)) (length (s .args .universe .now))) ∙ g .0, g .1, g .2)
 
 pub read-facts-spec : {M : Type 1} → statement M
 read-facts-spec =

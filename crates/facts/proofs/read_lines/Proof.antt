@@ -38,7 +38,12 @@ same-length-2 : tie.Need-same-length-2 Inv-loop μ-loop
 same-length-2 c = search needs
 
 returns : tie.Need-returns Inv-loop μ-loop
-returns c = let t = (subst (Taken (now (c .before .before .before .before .before .before .before .before .before .before .before .before .before .before .before .args .facts)) (now (c .before .before .before .before .before .before .before .before .before .before .before .before .before .before .before .args .query)) (line-of (now (c .before .before .before .before .before .before .before .before .before .before .before .before .before .before .before .args .facts)) (c .before .before .before .before .before .before .before .before .before .before .loop .a) (c .before .before .before .before .before .before .before .before .before .run-end .result)) (c .before .before .before .before .before .before .before .before .before .before .loop .relations) (c .before .before .before .before .before .before .take-line .last .1 .1 .0) (c .before .before .before .before .before .before .before .before .before .before .loop .universe) (c .before .before .before .before .before .before .take-line .last .1 .1 .1 .0) (c .before .before .before .before .before .before .before .before .before .before .loop .c)) (c .enum-told .given .1) (c .before .before .before .before .before .before .take-line .ensures)) in reading-end _ _ _ _ (subst (λ (ls : List Line). Reading (now (c .before .before .before .before .before .before .before .before .before .before .before .before .before .before .before .args .facts)) (now (c .before .before .before .before .before .before .before .before .before .before .before .before .before .before .before .args .query)) (now (c .before .before .before .before .before .before .before .before .before .before .before .before .before .before .before .args .relations)) (now (c .before .before .before .before .before .before .before .before .before .before .before .before .before .before .before .args .universe)) ls (c .before .before .before .before .before .before .before .before .before .before .loop .relations) (c .before .before .before .before .before .before .before .before .before .before .loop .universe) (c .before .before .before .before .before .before .before .before .before .before .loop .c)) (lines-dot (now (c .before .before .before .before .before .before .before .before .before .before .before .before .before .before .before .args .facts)) (c .before .before .before .before .before .before .before .before .before .before .loop .a) (c .before .before .before .before .before .before .before .before .before .run-end .result) (c .before .before .before .before .before .before .before .before .before .before .loop .inv .0) (c .before .before .before .before .before .before .before .before .before .run-end .ensures .0) (c .before .before .before .before .before .before .before .before .before .run-end .ensures .1 .1) (t .0)) (c .before .before .before .before .before .before .before .before .before .before .loop .inv .3)) (t .1) (t .2)
+returns c =
+    let s = c .before .before .before .before .before .before .before .before .before .before .before .before .before .before .before in
+    let l = c .before .before .before .before .before .before .before .before .before .before .loop in
+    let run-end = c .before .before .before .before .before .before .before .before .before .run-end in
+    let take-line = c .before .before .before .before .before .before .take-line in
+    let t = (subst (Taken (s .args .facts .now) (s .args .query .now) (line-of (s .args .facts .now) (l .a) (run-end .result)) (l .relations) (take-line .last .1 .1 .0) (l .universe) (take-line .last .1 .1 .1 .0) (l .c)) (c .enum-told .given .1) (take-line .ensures)) in reading-end _ _ _ _ (subst (λ (ls : List Line). Reading (s .args .facts .now) (s .args .query .now) (s .args .relations .now) (s .args .universe .now) ls (l .relations) (l .universe) (l .c)) (lines-dot (s .args .facts .now) (l .a) (run-end .result) (l .inv .0) (run-end .ensures .0) (run-end .ensures .1 .1) (t .0)) (l .inv .3)) (t .1) (t .2)
 
 enum-known-q : tie.Need-enum-known-q Inv-loop μ-loop
 enum-known-q c = search needs
@@ -50,7 +55,12 @@ same-length-4 : tie.Need-same-length-4 Inv-loop μ-loop
 same-length-4 c = search needs
 
 returns-2 : tie.Need-returns-2 Inv-loop μ-loop
-returns-2 c = let t = (subst (Taken (now (c .before .before .before .before .before .before .before .before .before .before .before .before .before .before .before .before .args .facts)) (now (c .before .before .before .before .before .before .before .before .before .before .before .before .before .before .before .before .args .query)) (line-of (now (c .before .before .before .before .before .before .before .before .before .before .before .before .before .before .before .before .args .facts)) (c .before .before .before .before .before .before .before .before .before .before .before .loop .a) (c .before .before .before .before .before .before .before .before .before .before .run-end .result)) (c .before .before .before .before .before .before .before .before .before .before .before .loop .relations) (c .before .before .before .before .before .before .before .take-line .last .1 .1 .0) (c .before .before .before .before .before .before .before .before .before .before .before .loop .universe) (c .before .before .before .before .before .before .before .take-line .last .1 .1 .1 .0) (c .before .before .before .before .before .before .before .before .before .before .before .loop .c)) (c .before .q .given .1) (c .before .before .before .before .before .before .before .take-line .ensures)) in fails-at (now (c .before .before .before .before .before .before .before .before .before .before .before .before .before .before .before .before .args .facts)) (c .before .before .before .before .before .before .before .before .before .before .before .loop .a) (c .before .before .before .before .before .before .before .before .before .before .run-end .result) (c .before .before .before .before .before .before .before .before .before .before .before .loop .inv .0) (c .before .before .before .before .before .before .before .before .before .before .run-end .ensures .0) (c .before .before .before .before .before .before .before .before .before .before .run-end .ensures .1 .1) (t .0) (now (c .before .before .before .before .before .before .before .before .before .before .before .before .before .before .before .before .args .query)) (now (c .before .before .before .before .before .before .before .before .before .before .before .before .before .before .before .before .args .relations)) (now (c .before .before .before .before .before .before .before .before .before .before .before .before .before .before .before .before .args .universe)) (c .before .before .before .before .before .before .before .before .before .before .before .loop .relations) (c .before .before .before .before .before .before .before .before .before .before .before .loop .universe) (c .before .before .before .before .before .before .before .before .before .before .before .loop .c) (c .before .before .before .before .before .before .before .before .before .before .before .loop .inv .3) (c .before .before .before .before .before .before .before .take-line .last .1 .1 .0) (c .before .before .before .before .before .before .before .take-line .last .1 .1 .1 .0) (c .before .q .given .0 .0) (t .1)
+returns-2 c =
+    let s = c .before .before .before .before .before .before .before .before .before .before .before .before .before .before .before .before in
+    let l = c .before .before .before .before .before .before .before .before .before .before .before .loop in
+    let run-end = c .before .before .before .before .before .before .before .before .before .before .run-end in
+    let take-line = c .before .before .before .before .before .before .before .take-line in
+    let t = (subst (Taken (s .args .facts .now) (s .args .query .now) (line-of (s .args .facts .now) (l .a) (run-end .result)) (l .relations) (take-line .last .1 .1 .0) (l .universe) (take-line .last .1 .1 .1 .0) (l .c)) (c .before .q .given .1) (take-line .ensures)) in fails-at (s .args .facts .now) (l .a) (run-end .result) (l .inv .0) (run-end .ensures .0) (run-end .ensures .1 .1) (t .0) (s .args .query .now) (s .args .relations .now) (s .args .universe .now) (l .relations) (l .universe) (l .c) (l .inv .3) (take-line .last .1 .1 .0) (take-line .last .1 .1 .1 .0) (c .before .q .given .0 .0) (t .1)
 
 enum-known-d : tie.Need-enum-known-d Inv-loop μ-loop
 enum-known-d c = search needs
@@ -62,7 +72,12 @@ same-length-6 : tie.Need-same-length-6 Inv-loop μ-loop
 same-length-6 c = search needs
 
 returns-3 : tie.Need-returns-3 Inv-loop μ-loop
-returns-3 c = let t = (subst (Taken (now (c .before .before .before .before .before .before .before .before .before .before .before .before .before .before .before .before .before .args .facts)) (now (c .before .before .before .before .before .before .before .before .before .before .before .before .before .before .before .before .before .args .query)) (line-of (now (c .before .before .before .before .before .before .before .before .before .before .before .before .before .before .before .before .before .args .facts)) (c .before .before .before .before .before .before .before .before .before .before .before .before .loop .a) (c .before .before .before .before .before .before .before .before .before .before .before .run-end .result)) (c .before .before .before .before .before .before .before .before .before .before .before .before .loop .relations) (c .before .before .before .before .before .before .before .before .take-line .last .1 .1 .0) (c .before .before .before .before .before .before .before .before .before .before .before .before .loop .universe) (c .before .before .before .before .before .before .before .before .take-line .last .1 .1 .1 .0) (c .before .before .before .before .before .before .before .before .before .before .before .before .loop .c)) (c .before .before .d .given .1) (c .before .before .before .before .before .before .before .before .take-line .ensures)) in reading-end _ _ _ _ (reading-more _ _ _ _ (subst (λ (ls : List Line). Reading (now (c .before .before .before .before .before .before .before .before .before .before .before .before .before .before .before .before .before .args .facts)) (now (c .before .before .before .before .before .before .before .before .before .before .before .before .before .before .before .before .before .args .query)) (now (c .before .before .before .before .before .before .before .before .before .before .before .before .before .before .before .before .before .args .relations)) (now (c .before .before .before .before .before .before .before .before .before .before .before .before .before .before .before .before .before .args .universe)) ls (c .before .before .before .before .before .before .before .before .before .before .before .before .loop .relations) (c .before .before .before .before .before .before .before .before .before .before .before .before .loop .universe) (c .before .before .before .before .before .before .before .before .before .before .before .before .loop .c)) (lines-last (now (c .before .before .before .before .before .before .before .before .before .before .before .before .before .before .before .before .before .args .facts)) (c .before .before .before .before .before .before .before .before .before .before .before .before .loop .a) (c .before .before .before .before .before .before .before .before .before .before .before .run-end .result) (c .before .before .before .before .before .before .before .before .before .before .before .before .loop .inv .0) (c .before .before .before .before .before .before .before .before .before .before .before .run-end .ensures .0) (c .before .before .before .before .before .before .before .before .before .before .before .run-end .ensures .1 .1) (t .0) (c .if1 .taken)) (c .before .before .before .before .before .before .before .before .before .before .before .before .loop .inv .3)) (c .before .before .d .given .0 .0) t) refl refl
+returns-3 c =
+    let s = c .before .before .before .before .before .before .before .before .before .before .before .before .before .before .before .before .before in
+    let l = c .before .before .before .before .before .before .before .before .before .before .before .before .loop in
+    let run-end = c .before .before .before .before .before .before .before .before .before .before .before .run-end in
+    let take-line = c .before .before .before .before .before .before .before .before .take-line in
+    let t = (subst (Taken (s .args .facts .now) (s .args .query .now) (line-of (s .args .facts .now) (l .a) (run-end .result)) (l .relations) (take-line .last .1 .1 .0) (l .universe) (take-line .last .1 .1 .1 .0) (l .c)) (c .before .before .d .given .1) (take-line .ensures)) in reading-end _ _ _ _ (reading-more _ _ _ _ (subst (λ (ls : List Line). Reading (s .args .facts .now) (s .args .query .now) (s .args .relations .now) (s .args .universe .now) ls (l .relations) (l .universe) (l .c)) (lines-last (s .args .facts .now) (l .a) (run-end .result) (l .inv .0) (run-end .ensures .0) (run-end .ensures .1 .1) (t .0) (c .if1 .taken)) (l .inv .3)) (c .before .before .d .given .0 .0) t) refl refl
 
 add-a : tie.Need-add-a Inv-loop μ-loop
 add-a c = omega (arith, c .before .before .before .before .before .before .before .before .before .before .before .run-end .ensures .1, c .if1 .left)
@@ -71,7 +86,12 @@ loop-less : tie.Need-loop-less Inv-loop μ-loop
 loop-less c = omega (arith, c .before .before .before .before .before .before .before .before .before .before .before .run-end .ensures .1, c .if1 .left)
 
 loop-again : tie.Need-loop-again Inv-loop μ-loop
-loop-again c = let t = (subst (Taken (now (c .before .before .before .before .before .before .before .before .before .before .before .before .before .before .before .before .before .args .facts)) (now (c .before .before .before .before .before .before .before .before .before .before .before .before .before .before .before .before .before .args .query)) (line-of (now (c .before .before .before .before .before .before .before .before .before .before .before .before .before .before .before .before .before .args .facts)) (c .before .before .before .before .before .before .before .before .before .before .before .before .loop .a) (c .before .before .before .before .before .before .before .before .before .before .before .run-end .result)) (c .before .before .before .before .before .before .before .before .before .before .before .before .loop .relations) (c .before .before .before .before .before .before .before .before .take-line .last .1 .1 .0) (c .before .before .before .before .before .before .before .before .before .before .before .before .loop .universe) (c .before .before .before .before .before .before .before .before .take-line .last .1 .1 .1 .0) (c .before .before .before .before .before .before .before .before .before .before .before .before .loop .c)) (c .before .before .d .given .1) (c .before .before .before .before .before .before .before .before .take-line .ensures)) in let g = reading-more _ _ _ _ (subst (λ (ls : List Line). Reading (now (c .before .before .before .before .before .before .before .before .before .before .before .before .before .before .before .before .before .args .facts)) (now (c .before .before .before .before .before .before .before .before .before .before .before .before .before .before .before .before .before .args .query)) (now (c .before .before .before .before .before .before .before .before .before .before .before .before .before .before .before .before .before .args .relations)) (now (c .before .before .before .before .before .before .before .before .before .before .before .before .before .before .before .before .before .args .universe)) ls (c .before .before .before .before .before .before .before .before .before .before .before .before .loop .relations) (c .before .before .before .before .before .before .before .before .before .before .before .before .loop .universe) (c .before .before .before .before .before .before .before .before .before .before .before .before .loop .c)) (lines-more (now (c .before .before .before .before .before .before .before .before .before .before .before .before .before .before .before .before .before .args .facts)) (c .before .before .before .before .before .before .before .before .before .before .before .before .loop .a) (c .before .before .before .before .before .before .before .before .before .before .before .run-end .result) (c .before .before .before .before .before .before .before .before .before .before .before .before .loop .inv .0) (c .before .before .before .before .before .before .before .before .before .before .before .run-end .ensures .0) (c .before .before .before .before .before .before .before .before .before .before .before .run-end .ensures .1 .1) (t .0) (omega (arith, c .before .before .before .before .before .before .before .before .before .before .before .run-end .ensures .1, c .if1 .left))) (c .before .before .before .before .before .before .before .before .before .before .before .before .loop .inv .3)) (c .before .before .d .given .0 .0) t in (omega (arith, c .before .before .before .before .before .before .before .before .before .before .before .run-end .ensures .1, c .if1 .left), held-length (g .relations), held-length (g .elements), g)
+loop-again c =
+    let s = c .before .before .before .before .before .before .before .before .before .before .before .before .before .before .before .before .before in
+    let l = c .before .before .before .before .before .before .before .before .before .before .before .before .loop in
+    let run-end = c .before .before .before .before .before .before .before .before .before .before .before .run-end in
+    let take-line = c .before .before .before .before .before .before .before .before .take-line in
+    let t = (subst (Taken (s .args .facts .now) (s .args .query .now) (line-of (s .args .facts .now) (l .a) (run-end .result)) (l .relations) (take-line .last .1 .1 .0) (l .universe) (take-line .last .1 .1 .1 .0) (l .c)) (c .before .before .d .given .1) (take-line .ensures)) in let g = reading-more _ _ _ _ (subst (λ (ls : List Line). Reading (s .args .facts .now) (s .args .query .now) (s .args .relations .now) (s .args .universe .now) ls (l .relations) (l .universe) (l .c)) (lines-more (s .args .facts .now) (l .a) (run-end .result) (l .inv .0) (run-end .ensures .0) (run-end .ensures .1 .1) (t .0) (omega (arith, run-end .ensures .1, c .if1 .left))) (l .inv .3)) (c .before .before .d .given .0 .0) t in (omega (arith, run-end .ensures .1, c .if1 .left), held-length (g .relations), held-length (g .elements), g)
 
 pub read-lines-spec : {M : Type 1} → statement M
 read-lines-spec =

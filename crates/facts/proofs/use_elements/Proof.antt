@@ -25,7 +25,9 @@ element-word-requires : tie.Need-element-word-requires Inv-loop μ-loop
 element-word-requires c κs = let w = within-item _ _ (c .before .before .before .loop .i) (c .before .before .before .before .before .before .before .pre .3) in let e = c .before .item-at .ensures in (omega arith, rw e (omega (arith, w .place)), rw e (w .len))
 
 enter-again-requires : tie.Need-enter-again-requires Inv-loop μ-loop
-enter-again-requires c κs = (omega (arith, c .before .before .before .before .loop .inv .2 .held .room, c .before .before .before .before .loop .inv .0), let s = c .before .before .before .before .before .before .before .before in entering-ascending (now (s .args .facts)) (now (s .args .query)) (s .args .a) (s .args .f) (now (s .args .universe)) (s .args .n) (c .before .before .before .before .loop .universe) (c .before .before .before .before .loop .count) (c .before .before .before .before .loop .i) (c .before .before .before .before .loop .inv .2) (s .pre .4))
+enter-again-requires c κs =
+    let l = c .before .before .before .before .loop in
+    (omega (arith, l .inv .2 .held .room, l .inv .0), let s = c .before .before .before .before .before .before .before .before in entering-ascending (s .args .facts .now) (s .args .query .now) (s .args .a) (s .args .f) (s .args .universe .now) (s .args .n) (l .universe) (l .count) (l .i) (l .inv .2) (s .pre .4))
 
 enum-told : tie.Need-enum-told Inv-loop μ-loop
 enum-told c = search needs
@@ -37,7 +39,11 @@ same-length : tie.Need-same-length Inv-loop μ-loop
 same-length c = search needs
 
 returns : tie.Need-returns Inv-loop μ-loop
-returns c = rw (c .before .before .before .before .before .before .before .before .item-at .ensures) (entering-full (now (c .before .before .before .before .before .before .before .before .before .before .before .before .before .before .args .facts)) (now (c .before .before .before .before .before .before .before .before .before .before .before .before .before .before .args .query)) (c .before .before .before .before .before .before .before .before .before .before .before .before .before .before .args .a) (c .before .before .before .before .before .before .before .before .before .before .before .before .before .before .args .f) (now (c .before .before .before .before .before .before .before .before .before .before .before .before .before .before .args .universe)) (c .before .before .before .before .before .before .before .before .before .before .before .before .before .before .args .n) (c .before .before .before .before .before .before .before .before .before .before .loop .universe) (c .before .before .before .before .before .before .before .before .before .before .loop .count) (c .before .before .before .before .before .before .before .before .before .before .loop .i) (c .before .before .before .before .before .before .before .before .before .before .loop .inv .2) (c .before .before .before .before .before .before .before .before .before .before .before .before .before .before .pre .3 .arity) (c .before .before .before .before .before .before .before .before .before .loop-test .taken) (within-item _ _ (c .before .before .before .before .before .before .before .before .before .before .loop .i) (c .before .before .before .before .before .before .before .before .before .before .before .before .before .before .pre .3) .len) (sym (c .before .enum-told .given .1) ∙ c .before .before .before .before .before .enter-again .ensures .0 ∙ rw (c .before .before .before .before .before .before .element-word .ensures, c .before .before .before .before .before .before .before .before .item-at .ensures)))
+returns c =
+    let s = c .before .before .before .before .before .before .before .before .before .before .before .before .before .before in
+    let l = c .before .before .before .before .before .before .before .before .before .before .loop in
+    let item-at = c .before .before .before .before .before .before .before .before .item-at in
+    rw (item-at .ensures) (entering-full (s .args .facts .now) (s .args .query .now) (s .args .a) (s .args .f) (s .args .universe .now) (s .args .n) (l .universe) (l .count) (l .i) (l .inv .2) (s .pre .3 .arity) (c .before .before .before .before .before .before .before .before .before .loop-test .taken) (within-item _ _ (l .i) (s .pre .3) .len) (sym (c .before .enum-told .given .1) ∙ c .before .before .before .before .before .enter-again .ensures .0 ∙ rw (c .before .before .before .before .before .before .element-word .ensures, item-at .ensures)))
 
 enum-known-m : tie.Need-enum-known-m Inv-loop μ-loop
 enum-known-m c = search needs
@@ -49,13 +55,21 @@ loop-less : tie.Need-loop-less Inv-loop μ-loop
 loop-less c = search needs
 
 loop-again : tie.Need-loop-again Inv-loop μ-loop
-loop-again c = let g = entering-next (now (c .before .before .before .before .before .before .before .before .before .before .before .before .before .before .args .facts)) (now (c .before .before .before .before .before .before .before .before .before .before .before .before .before .before .args .query)) (c .before .before .before .before .before .before .before .before .before .before .before .before .before .before .args .a) (c .before .before .before .before .before .before .before .before .before .before .before .before .before .before .args .f) (now (c .before .before .before .before .before .before .before .before .before .before .before .before .before .before .args .universe)) (c .before .before .before .before .before .before .before .before .before .before .before .before .before .before .args .n) (c .before .before .before .before .before .before .before .before .before .before .loop .universe) (c .before .before .before .before .before .before .before .before .before .before .loop .count) (c .before .before .before .before .before .before .before .before .before .before .loop .i) (c .before .before .before .before .before .before .before .before .before .before .loop .inv .2) (c .before .before .before .before .before .before .before .before .before .before .before .before .before .before .pre .3 .arity) (c .before .before .before .before .before .before .before .before .before .loop-test .taken) (within-item _ _ (c .before .before .before .before .before .before .before .before .before .before .loop .i) (c .before .before .before .before .before .before .before .before .before .before .before .before .before .before .pre .3) .len) _ _ (c .before .before .before .before .before .enter-again .ensures .1 ∙ rw (c .before .before .before .before .before .before .element-word .ensures, c .before .before .before .before .before .before .before .before .item-at .ensures)) (sym (c .before .m .given .1) ∙ c .before .before .before .before .before .enter-again .ensures .0 ∙ rw (c .before .before .before .before .before .before .element-word .ensures, c .before .before .before .before .before .before .before .before .item-at .ensures)) in (held-length (g .held), omega arith, g)
+loop-again c =
+    let s = c .before .before .before .before .before .before .before .before .before .before .before .before .before .before in
+    let l = c .before .before .before .before .before .before .before .before .before .before .loop in
+    let item-at = c .before .before .before .before .before .before .before .before .item-at in
+    let element-word = c .before .before .before .before .before .before .element-word in
+    let enter-again = c .before .before .before .before .before .enter-again in
+    let g = entering-next (s .args .facts .now) (s .args .query .now) (s .args .a) (s .args .f) (s .args .universe .now) (s .args .n) (l .universe) (l .count) (l .i) (l .inv .2) (s .pre .3 .arity) (c .before .before .before .before .before .before .before .before .before .loop-test .taken) (within-item _ _ (l .i) (s .pre .3) .len) _ _ (enter-again .ensures .1 ∙ rw (element-word .ensures, item-at .ensures)) (sym (c .before .m .given .1) ∙ enter-again .ensures .0 ∙ rw (element-word .ensures, item-at .ensures)) in (held-length (g .held), omega arith, g)
 
 same-length-2 : tie.Need-same-length-2 Inv-loop μ-loop
 same-length-2 c = search needs
 
 returns-2 : tie.Need-returns-2 Inv-loop μ-loop
-returns-2 c = entering-end (now (c .before .before .before .before .before .args .facts)) (now (c .before .before .before .before .before .args .query)) (c .before .before .before .before .before .args .a) (c .before .before .before .before .before .args .f) (now (c .before .before .before .before .before .args .universe)) (c .before .before .before .before .before .args .n) (c .before .loop .universe) (c .before .loop .count) (c .before .loop .i) (c .before .loop .inv .2) (c .loop-test .left) (c .before .before .before .before .before .pre .3 .arity)
+returns-2 c =
+    let s = c .before .before .before .before .before in
+    entering-end (s .args .facts .now) (s .args .query .now) (s .args .a) (s .args .f) (s .args .universe .now) (s .args .n) (c .before .loop .universe) (c .before .loop .count) (c .before .loop .i) (c .before .loop .inv .2) (c .loop-test .left) (s .pre .3 .arity)
 
 pub use-elements-spec : {M : Type 1} → statement M
 use-elements-spec =

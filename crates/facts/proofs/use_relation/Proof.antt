@@ -26,19 +26,27 @@ same-length : tie.Need-same-length
 same-length c = search needs
 
 returns : tie.Need-returns
-returns c = relation-other (now (c .before .before .before .before .before .before .before .before .args .facts)) (now (c .before .before .before .before .before .before .before .before .args .query)) (c .before .before .before .before .before .before .before .before .args .v) (now (c .before .before .before .before .before .before .before .before .args .relations)) (c .before .before .before .before .before .before .before .before .args .n) (c .before .before .before .before .before .before .before .before .pre) (c .before .before .before .index-of .result) (c .before .before .before .index-of .ensures .0) (c .before .before .if1 .taken) (c .if2 .taken)
+returns c =
+    let s = c .before .before .before .before .before .before .before .before in
+    let index-of = c .before .before .before .index-of in
+    relation-other (s .args .facts .now) (s .args .query .now) (s .args .v) (s .args .relations .now) (s .args .n) (s .pre) (index-of .result) (index-of .ensures .0) (c .before .before .if1 .taken) (c .if2 .taken)
 
 same-length-2 : tie.Need-same-length-2
 same-length-2 c = search needs
 
 returns-2 : tie.Need-returns-2
-returns-2 c = relation-known (now (c .before .before .before .before .before .before .before .before .args .facts)) (now (c .before .before .before .before .before .before .before .before .args .query)) (c .before .before .before .before .before .before .before .before .args .v) (now (c .before .before .before .before .before .before .before .before .args .relations)) (c .before .before .before .before .before .before .before .before .args .n) (c .before .before .before .before .before .before .before .before .pre) (c .before .before .before .index-of .result) (c .before .before .before .index-of .ensures .0) (c .before .before .if1 .taken) (c .if2 .left)
+returns-2 c =
+    let s = c .before .before .before .before .before .before .before .before in
+    let index-of = c .before .before .before .index-of in
+    relation-known (s .args .facts .now) (s .args .query .now) (s .args .v) (s .args .relations .now) (s .args .n) (s .pre) (index-of .result) (index-of .ensures .0) (c .before .before .if1 .taken) (c .if2 .left)
 
 same-length-3 : tie.Need-same-length-3
 same-length-3 c = search needs
 
 returns-3 : tie.Need-returns-3
-returns-3 c = relation-full (now (c .before .before .before .before .before .before .before .args .facts)) (now (c .before .before .before .before .before .before .before .args .query)) (c .before .before .before .before .before .before .before .args .v) (now (c .before .before .before .before .before .before .before .args .relations)) (c .before .before .before .before .before .before .before .args .n) (c .before .before .before .before .before .before .before .pre) (c .before .before .index-of .result) (c .before .before .index-of .ensures .0) (c .before .if1 .left) (c .before .before .index-of .ensures .1) (c .if3 .taken)
+returns-3 c =
+    let s = c .before .before .before .before .before .before .before in
+    relation-full (s .args .facts .now) (s .args .query .now) (s .args .v) (s .args .relations .now) (s .args .n) (s .pre) (c .before .before .index-of .result) (c .before .before .index-of .ensures .0) (c .before .if1 .left) (c .before .before .index-of .ensures .1) (c .if3 .taken)
 
 mul-relations : tie.Need-mul-relations
 mul-relations c = search needs
@@ -53,7 +61,9 @@ same-length-4 : tie.Need-same-length-4
 same-length-4 c = search needs
 
 returns-4 : tie.Need-returns-4
-returns-4 c = relation-new (now (c .before .before .before .before .before .before .before .args .facts)) (now (c .before .before .before .before .before .before .before .args .query)) (c .before .before .before .before .before .before .before .args .v) (now (c .before .before .before .before .before .before .before .args .relations)) (c .before .before .before .before .before .before .before .args .n) (c .before .before .before .before .before .before .before .pre) (c .before .before .index-of .result) (c .before .before .index-of .ensures .0) (c .before .if1 .left) (c .before .before .index-of .ensures .1) (omega (arith, c .before .before .before .before .before .before .before .pre, c .if3 .left))
+returns-4 c =
+    let s = c .before .before .before .before .before .before .before in
+    relation-new (s .args .facts .now) (s .args .query .now) (s .args .v) (s .args .relations .now) (s .args .n) (s .pre) (c .before .before .index-of .result) (c .before .before .index-of .ensures .0) (c .before .if1 .left) (c .before .before .index-of .ensures .1) (omega (arith, s .pre, c .if3 .left))
 
 pub use-relation-spec : {M : Type 1} → statement M
 use-relation-spec =

@@ -2,11 +2,28 @@ use borrow.Author.Needs.{needs}
 use Rattle.facts.proofs.with_fact.Statement.{statement}
 use Rattle.facts.proofs.with_fact.Tie as tie
 use Prim.Native.Nat.{ℕ}
-use mathlib.Core.Path.{subst}
+use mathlib.Core.Path.{_≡_, subst}
 use denote.Ref.{now}
+use Rattle.facts.specs.Words.{line-word}
 use Rattle.facts.specs.Pass.{RelationUsed, UniverseUsed}
-use Rattle.facts.specs.declared.Used.the-variants.{Count, OtherArity, Full}
+use Rattle.facts.specs.declared.Used.{Used}
+use Rattle.facts.specs.declared.ElementsUsed.{ElementsUsed}
 use Rattle.facts.proofs.FactLaws.{taken-full, taken-other, taken-many, taken-fits}
+
+-- what the calls say of the lists
+relation-used : (c : tie.After-use-relation) (u : Used) → c .use-relation .result ≡ u
+    → RelationUsed (c .before .before .before .before .before .before .before .args .facts .now) (c .before .before .before .before .before .before .before .args .query .now) (line-word (c .before .before .before .before .before .before .before .args .a) (c .before .before .before .before .before .before .before .args .f)) (c .before .before .before .before .before .before .before .args .relations .now) (c .use-relation .last .1 .1 .0) (c .before .before .before .before .before .before .before .args .c .relations) u
+relation-used c u told =
+    let a = c .before .before .before .before .before .before .before .args in
+    let new = c .use-relation .last .1 .1 .0 in
+    subst (λ (v : ℕ). RelationUsed (a .facts .now) (a .query .now) v (a .relations .now) new (a .c .relations) u) (c .before .packed .ensures)
+    (subst (RelationUsed (a .facts .now) (a .query .now) (c .before .packed .result) (a .relations .now) new (a .c .relations)) told (c .use-relation .ensures))
+
+universe-used : (c : tie.After-use-elements) (u : ElementsUsed) → c .use-elements .result ≡ u
+    → UniverseUsed (c .before .before .before .before .before .before .before .before .before .before .before .before .before .before .args .facts .now) (c .before .before .before .before .before .before .before .before .before .before .before .before .before .before .args .query .now) (c .before .before .before .before .before .before .before .before .before .before .before .before .before .before .args .a) (c .before .before .before .before .before .before .before .before .before .before .before .before .before .before .args .f) (c .before .before .before .before .before .before .before .before .before .before .before .before .before .before .args .universe .now) (c .use-elements .last .1 .1 .0) (c .before .before .before .before .before .before .before .before .before .before .before .before .before .before .args .c .elements) u
+universe-used c u told =
+    let a = c .before .before .before .before .before .before .before .before .before .before .before .before .before .before .args in
+    subst (UniverseUsed (a .facts .now) (a .query .now) (a .a) (a .f) (a .universe .now) (c .use-elements .last .1 .1 .0) (a .c .elements)) told (c .use-elements .ensures)
 
 packed-requires : tie.Need-packed-requires
 packed-requires c κs = search needs
@@ -39,13 +56,17 @@ same-length : tie.Need-same-length
 same-length c = search needs
 
 returns : tie.Need-returns
-returns c = taken-full (now (c .before .before .before .before .before .before .before .before .before .before .before .args .facts)) (now (c .before .before .before .before .before .before .before .before .before .before .before .args .query)) (c .before .before .before .before .before .before .before .before .before .before .before .args .a) (c .before .before .before .before .before .before .before .before .before .before .before .args .f) (c .before .before .before .before .before .before .before .before .before .before .before .pre .4 .arity) (c .before .before .before .before .before .before .before .before .before .before .before .pre .4 .name) (now (c .before .before .before .before .before .before .before .before .before .before .before .args .relations)) (now (c .before .before .before .before .before .before .before .before .before .before .before .args .universe)) (c .before .before .before .before .before .before .before .before .before .before .before .args .c) (c .before .before .before .before .use-relation .last .1 .1 .0) (now (c .before .before .before .before .before .before .before .before .before .before .before .args .universe)) (subst (λ (v : ℕ). RelationUsed (now (c .before .before .before .before .before .before .before .before .before .before .before .args .facts)) (now (c .before .before .before .before .before .before .before .before .before .before .before .args .query)) v (now (c .before .before .before .before .before .before .before .before .before .before .before .args .relations)) (c .before .before .before .before .use-relation .last .1 .1 .0) (c .before .before .before .before .before .before .before .before .before .before .before .args .c .relations) (Full)) (c .before .before .before .before .before .packed .ensures) (subst (RelationUsed (now (c .before .before .before .before .before .before .before .before .before .before .before .args .facts)) (now (c .before .before .before .before .before .before .before .before .before .before .before .args .query)) (c .before .before .before .before .before .packed .result) (now (c .before .before .before .before .before .before .before .before .before .before .before .args .relations)) (c .before .before .before .before .use-relation .last .1 .1 .0) (c .before .before .before .before .before .before .before .before .before .before .before .args .c .relations)) (c .enum-told .given .1) (c .before .before .before .before .use-relation .ensures)))
+returns c =
+    let s = c .before .before .before .before .before .before .before .before .before .before .before in
+    taken-full (s .args .facts .now) (s .args .query .now) (s .args .a) (s .args .f) (s .pre .4 .arity) (s .pre .4 .name) (s .args .relations .now) (s .args .universe .now) (s .args .c) (c .before .before .before .before .use-relation .last .1 .1 .0) (s .args .universe .now) (relation-used (c .before .before .before .before) _ (c .enum-told .given .1))
 
 same-length-2 : tie.Need-same-length-2
 same-length-2 c = search needs
 
 returns-2 : tie.Need-returns-2
-returns-2 c = taken-other (now (c .before .before .before .before .before .before .before .before .before .before .before .before .args .facts)) (now (c .before .before .before .before .before .before .before .before .before .before .before .before .args .query)) (c .before .before .before .before .before .before .before .before .before .before .before .before .args .a) (c .before .before .before .before .before .before .before .before .before .before .before .before .args .f) (c .before .before .before .before .before .before .before .before .before .before .before .before .pre .4 .arity) (c .before .before .before .before .before .before .before .before .before .before .before .before .pre .4 .name) (now (c .before .before .before .before .before .before .before .before .before .before .before .before .args .relations)) (now (c .before .before .before .before .before .before .before .before .before .before .before .before .args .universe)) (c .before .before .before .before .before .before .before .before .before .before .before .before .args .c) (c .before .before .before .before .before .use-relation .last .1 .1 .0) (now (c .before .before .before .before .before .before .before .before .before .before .before .before .args .universe)) (c .last-place .result) (c .last-place .ensures) (subst (λ (v : ℕ). RelationUsed (now (c .before .before .before .before .before .before .before .before .before .before .before .before .args .facts)) (now (c .before .before .before .before .before .before .before .before .before .before .before .before .args .query)) v (now (c .before .before .before .before .before .before .before .before .before .before .before .before .args .relations)) (c .before .before .before .before .before .use-relation .last .1 .1 .0) (c .before .before .before .before .before .before .before .before .before .before .before .before .args .c .relations) (OtherArity)) (c .before .before .before .before .before .before .packed .ensures) (subst (RelationUsed (now (c .before .before .before .before .before .before .before .before .before .before .before .before .args .facts)) (now (c .before .before .before .before .before .before .before .before .before .before .before .before .args .query)) (c .before .before .before .before .before .before .packed .result) (now (c .before .before .before .before .before .before .before .before .before .before .before .before .args .relations)) (c .before .before .before .before .before .use-relation .last .1 .1 .0) (c .before .before .before .before .before .before .before .before .before .before .before .before .args .c .relations)) (c .before .enum-told2 .given .1) (c .before .before .before .before .before .use-relation .ensures)))
+returns-2 c =
+    let s = c .before .before .before .before .before .before .before .before .before .before .before .before in
+    taken-other (s .args .facts .now) (s .args .query .now) (s .args .a) (s .args .f) (s .pre .4 .arity) (s .pre .4 .name) (s .args .relations .now) (s .args .universe .now) (s .args .c) (c .before .before .before .before .before .use-relation .last .1 .1 .0) (s .args .universe .now) (c .last-place .result) (c .last-place .ensures) (relation-used (c .before .before .before .before .before) _ (c .before .enum-told2 .given .1))
 
 same-length-3 : tie.Need-same-length-3
 same-length-3 c = search needs
@@ -54,7 +75,10 @@ same-length-4 : tie.Need-same-length-4
 same-length-4 c = search needs
 
 returns-3 : tie.Need-returns-3
-returns-3 c = taken-many (now (c .before .before .before .before .before .before .before .before .before .before .before .before .before .before .before .before .before .before .before .args .facts)) (now (c .before .before .before .before .before .before .before .before .before .before .before .before .before .before .before .before .before .before .before .args .query)) (c .before .before .before .before .before .before .before .before .before .before .before .before .before .before .before .before .before .before .before .args .a) (c .before .before .before .before .before .before .before .before .before .before .before .before .before .before .before .before .before .before .before .args .f) (c .before .before .before .before .before .before .before .before .before .before .before .before .before .before .before .before .before .before .before .pre .4 .arity) (c .before .before .before .before .before .before .before .before .before .before .before .before .before .before .before .before .before .before .before .pre .4 .name) (now (c .before .before .before .before .before .before .before .before .before .before .before .before .before .before .before .before .before .before .before .args .relations)) (now (c .before .before .before .before .before .before .before .before .before .before .before .before .before .before .before .before .before .before .before .args .universe)) (c .before .before .before .before .before .before .before .before .before .before .before .before .before .before .before .before .before .before .before .args .c) (c .before .before .before .before .before .before .before .before .before .before .before .before .use-relation .last .1 .1 .0) (c .before .before .before .before .before .use-elements .last .1 .1 .0) (c .before .before .before .before .before .before .before .before .r .given .0 .0) (subst (λ (v : ℕ). RelationUsed (now (c .before .before .before .before .before .before .before .before .before .before .before .before .before .before .before .before .before .before .before .args .facts)) (now (c .before .before .before .before .before .before .before .before .before .before .before .before .before .before .before .before .before .before .before .args .query)) v (now (c .before .before .before .before .before .before .before .before .before .before .before .before .before .before .before .before .before .before .before .args .relations)) (c .before .before .before .before .before .before .before .before .before .before .before .before .use-relation .last .1 .1 .0) (c .before .before .before .before .before .before .before .before .before .before .before .before .before .before .before .before .before .before .before .args .c .relations) (Count (c .before .before .before .before .before .before .before .before .r .given .0 .0))) (c .before .before .before .before .before .before .before .before .before .before .before .before .before .packed .ensures) (subst (RelationUsed (now (c .before .before .before .before .before .before .before .before .before .before .before .before .before .before .before .before .before .before .before .args .facts)) (now (c .before .before .before .before .before .before .before .before .before .before .before .before .before .before .before .before .before .before .before .args .query)) (c .before .before .before .before .before .before .before .before .before .before .before .before .before .packed .result) (now (c .before .before .before .before .before .before .before .before .before .before .before .before .before .before .before .before .before .before .before .args .relations)) (c .before .before .before .before .before .before .before .before .before .before .before .before .use-relation .last .1 .1 .0) (c .before .before .before .before .before .before .before .before .before .before .before .before .before .before .before .before .before .before .before .args .c .relations)) (c .before .before .before .before .before .before .before .before .r .given .1) (c .before .before .before .before .before .before .before .before .before .before .before .before .use-relation .ensures))) (c .before .p .given .0 .0) (subst (UniverseUsed (now (c .before .before .before .before .before .before .before .before .before .before .before .before .before .before .before .before .before .before .before .args .facts)) (now (c .before .before .before .before .before .before .before .before .before .before .before .before .before .before .before .before .before .before .before .args .query)) (c .before .before .before .before .before .before .before .before .before .before .before .before .before .before .before .before .before .before .before .args .a) (c .before .before .before .before .before .before .before .before .before .before .before .before .before .before .before .before .before .before .before .args .f) (now (c .before .before .before .before .before .before .before .before .before .before .before .before .before .before .before .before .before .before .before .args .universe)) (c .before .before .before .before .before .use-elements .last .1 .1 .0) (c .before .before .before .before .before .before .before .before .before .before .before .before .before .before .before .before .before .before .before .args .c .elements)) (c .before .p .given .1) (c .before .before .before .before .before .use-elements .ensures))
+returns-3 c =
+    let s = c .before .before .before .before .before .before .before .before .before .before .before .before .before .before .before .before .before .before .before in
+    let r = c .before .before .before .before .before .before .before .before .r in
+    taken-many (s .args .facts .now) (s .args .query .now) (s .args .a) (s .args .f) (s .pre .4 .arity) (s .pre .4 .name) (s .args .relations .now) (s .args .universe .now) (s .args .c) (c .before .before .before .before .before .before .before .before .before .before .before .before .use-relation .last .1 .1 .0) (c .before .before .before .before .before .use-elements .last .1 .1 .0) (r .given .0 .0) (relation-used (c .before .before .before .before .before .before .before .before .before .before .before .before) _ (r .given .1)) (c .before .p .given .0 .0) (universe-used (c .before .before .before .before .before) _ (c .before .p .given .1))
 
 same-length-5 : tie.Need-same-length-5
 same-length-5 c = search needs
@@ -63,7 +87,10 @@ same-length-6 : tie.Need-same-length-6
 same-length-6 c = search needs
 
 returns-4 : tie.Need-returns-4
-returns-4 c = taken-fits (now (c .before .before .before .before .before .before .before .before .before .before .before .before .before .before .before .before .before .before .before .args .facts)) (now (c .before .before .before .before .before .before .before .before .before .before .before .before .before .before .before .before .before .before .before .args .query)) (c .before .before .before .before .before .before .before .before .before .before .before .before .before .before .before .before .before .before .before .args .a) (c .before .before .before .before .before .before .before .before .before .before .before .before .before .before .before .before .before .before .before .args .f) (c .before .before .before .before .before .before .before .before .before .before .before .before .before .before .before .before .before .before .before .pre .4 .arity) (c .before .before .before .before .before .before .before .before .before .before .before .before .before .before .before .before .before .before .before .pre .4 .name) (now (c .before .before .before .before .before .before .before .before .before .before .before .before .before .before .before .before .before .before .before .args .relations)) (now (c .before .before .before .before .before .before .before .before .before .before .before .before .before .before .before .before .before .before .before .args .universe)) (c .before .before .before .before .before .before .before .before .before .before .before .before .before .before .before .before .before .before .before .args .c) (c .before .before .before .before .before .before .before .before .before .before .before .before .use-relation .last .1 .1 .0) (c .before .before .before .before .before .use-elements .last .1 .1 .0) (c .before .before .before .before .before .before .before .before .r .given .0 .0) (subst (λ (v : ℕ). RelationUsed (now (c .before .before .before .before .before .before .before .before .before .before .before .before .before .before .before .before .before .before .before .args .facts)) (now (c .before .before .before .before .before .before .before .before .before .before .before .before .before .before .before .before .before .before .before .args .query)) v (now (c .before .before .before .before .before .before .before .before .before .before .before .before .before .before .before .before .before .before .before .args .relations)) (c .before .before .before .before .before .before .before .before .before .before .before .before .use-relation .last .1 .1 .0) (c .before .before .before .before .before .before .before .before .before .before .before .before .before .before .before .before .before .before .before .args .c .relations) (Count (c .before .before .before .before .before .before .before .before .r .given .0 .0))) (c .before .before .before .before .before .before .before .before .before .before .before .before .before .packed .ensures) (subst (RelationUsed (now (c .before .before .before .before .before .before .before .before .before .before .before .before .before .before .before .before .before .before .before .args .facts)) (now (c .before .before .before .before .before .before .before .before .before .before .before .before .before .before .before .before .before .before .before .args .query)) (c .before .before .before .before .before .before .before .before .before .before .before .before .before .packed .result) (now (c .before .before .before .before .before .before .before .before .before .before .before .before .before .before .before .before .before .before .before .args .relations)) (c .before .before .before .before .before .before .before .before .before .before .before .before .use-relation .last .1 .1 .0) (c .before .before .before .before .before .before .before .before .before .before .before .before .before .before .before .before .before .before .before .args .c .relations)) (c .before .before .before .before .before .before .before .before .r .given .1) (c .before .before .before .before .before .before .before .before .before .before .before .before .use-relation .ensures))) (c .before .e .given .0 .0) (subst (UniverseUsed (now (c .before .before .before .before .before .before .before .before .before .before .before .before .before .before .before .before .before .before .before .args .facts)) (now (c .before .before .before .before .before .before .before .before .before .before .before .before .before .before .before .before .before .before .before .args .query)) (c .before .before .before .before .before .before .before .before .before .before .before .before .before .before .before .before .before .before .before .args .a) (c .before .before .before .before .before .before .before .before .before .before .before .before .before .before .before .before .before .before .before .args .f) (now (c .before .before .before .before .before .before .before .before .before .before .before .before .before .before .before .before .before .before .before .args .universe)) (c .before .before .before .before .before .use-elements .last .1 .1 .0) (c .before .before .before .before .before .before .before .before .before .before .before .before .before .before .before .before .before .before .before .args .c .elements)) (c .before .e .given .1) (c .before .before .before .before .before .use-elements .ensures))
+returns-4 c =
+    let s = c .before .before .before .before .before .before .before .before .before .before .before .before .before .before .before .before .before .before .before in
+    let r = c .before .before .before .before .before .before .before .before .r in
+    taken-fits (s .args .facts .now) (s .args .query .now) (s .args .a) (s .args .f) (s .pre .4 .arity) (s .pre .4 .name) (s .args .relations .now) (s .args .universe .now) (s .args .c) (c .before .before .before .before .before .before .before .before .before .before .before .before .use-relation .last .1 .1 .0) (c .before .before .before .before .before .use-elements .last .1 .1 .0) (r .given .0 .0) (relation-used (c .before .before .before .before .before .before .before .before .before .before .before .before) _ (r .given .1)) (c .before .e .given .0 .0) (universe-used (c .before .before .before .before .before) _ (c .before .e .given .1))
 
 pub with-fact-spec : {M : Type 1} → statement M
 with-fact-spec =
