@@ -12,7 +12,7 @@ use lib.Bits.{bitAnd, or-lt, and-le-r}
 use lib.Dec.{T, eqb, eqb→eq, eqb-refl, not-T}
 use lib.ListN.{length, getD, List·getD-eq-default}
 use lib.Pow.{pow-pos, pow-mono}
-use Rattle.definition.specs.Tables.{bit, word}
+use Rattle.definition.specs.Tables.{bit}
 use Rattle.definition.specs.Calls.{IsChain}
 use Rattle.definition.proofs.BoolLaws.{or-cases, or-left, or-right, and-left, and-right, and-both, is-false, not-both, apart}
 use Rattle.bits.proofs.Laws.{bit-or, bit-and, bit-none, bit-past, bit-with, with-lt, word-lt, word-bit}

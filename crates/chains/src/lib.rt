@@ -4,7 +4,7 @@ ghost use mathlib.Core.List.{_∷_, _++_};
 ghost use Prim.Native.Nat.{suc, _+_, _<_, _≤_};
 ghost use lib.ListN.{length, getD, drop};
 ghost use Rattle.definition.specs.Tables.{bit};
-ghost use Rattle.chains.specs.Levels.{least, meets, before, level, Near, way};
+ghost use Rattle.chains.specs.Levels.{least, meets, before, Near, way};
 ghost use Rattle.chains.specs.Search.{Searched};
 use bits::put_bit;
 use bits::set_bit;

@@ -6,7 +6,7 @@ use mathlib.Core.Bool.{Bool, true, false, _&&_}
 use native.Mathlib.Numerals.{add-one}
 use native.Mathlib.Nat.{zero-add, add-zero}
 use native.Mathlib.Omega.{arith}
-use lib.ListN.{length, take, drop, set, replicate}
+use lib.ListN.{length, take, drop, set, replicate, length-replicate}
 use lib.Seq.{drop-cons, set-at, drop-length}
 use borrow.Author.Tests.{le-ltb, lt-ltb}
 use Rattle.definition.specs.Text.{Text, starts, span, is-legal}
@@ -76,10 +76,6 @@ pub record Cleared (old words : List ℕ) (i : ℕ) : Type 0 where
   pub within : i ≤ length old
   pub is : words ≡ replicate i 0 ++ drop i old
 
-length-zeros : (i : ℕ) → length {A = ℕ} (replicate i 0) ≡ i
-length-zeros zero = refl
-length-zeros (suc i) = ap suc (length-zeros i)
-
 zeros-more : (i : ℕ) (ws : List ℕ) → replicate i 0 ++ 0 ∷ ws ≡ replicate (suc i) 0 ++ ws
 zeros-more zero ws = refl
 zeros-more (suc i) ws = ap (λ (l : List ℕ). 0 ∷ l) (zeros-more i ws)
@@ -93,7 +89,7 @@ cleared-one old words i l h =
       within = omega arith;
       is =
           ap (λ (ws : List ℕ). set ws i 0) (h .is ∙ ap (λ (ws : List ℕ). replicate i 0 ++ ws) (drop-cons old i 0 l))
-          ∙ set-at (replicate i 0) _ (drop (suc i) old) 0 i (length-zeros i) ∙ zeros-more i (drop (suc i) old)
+          ∙ set-at (replicate i 0) _ (drop (suc i) old) 0 i (length-replicate i 0) ∙ zeros-more i (drop (suc i) old)
           ∙ ap (λ (k : ℕ). replicate k 0 ++ drop k old) (sym (add-one i));
     }
 

@@ -3,7 +3,7 @@ use Prim.Native.Nat.{ℕ, zero, suc, _+_, _-_, _/_, _%_, _<_, _≤_}
 use mathlib.Core.Path.{_≡_, refl, ap, subst, _∙_}
 use mathlib.Core.List.{List, [], _∷_}
 use native.Mathlib.Omega.{arith}
-use lib.ListN.{length, getD, take, drop}
+use lib.ListN.{length, getD, take, drop, length-map}
 use lib.Seq.{length-take-le}
 use Rattle.definition.specs.Text.{Text}
 use Rattle.definition.specs.Limits.{ARITY, WORD-BYTES}
@@ -21,7 +21,7 @@ use Rattle.facts.specs.declared.Used.the-variants.{Count, OtherArity, Fu
 use Rattle.facts.specs.declared.ElementsUsed.the-variants.{Elements, TooMany}
 use Rattle.facts.specs.declared.FactUsed.the-variants.{Fits, Refused}
 use Rattle.facts.specs.Lines.{items-of, item-at}
-use Rattle.facts.specs.Words.{elements-at, fact-at, relation-of, relations-of, line-word}
+use Rattle.facts.specs.Words.{elements-at, fact-at, relation-of, relations-of, line-word, element-at}
 use Rattle.facts.specs.Pass.{limits-of, RelationUsed, UniverseUsed, FactTaken}
 use Rattle.facts.proofs.UseLaws.{facts-text}
 
@@ -41,10 +41,6 @@ last-some a f h n facts =
     ap (λ (k : ℕ). last-place a (elements-at facts a (take k (f .first ∷ f .second ∷ f .third ∷ [])))) e
     ∙ last-of facts a (f .arity - 1) (f .first) (f .second) (f .third) (omega (arith, n))
 
-pub length-elements : (facts : Text) (a : ℕ) (xs : List Item) → length (elements-at facts a xs) ≡ length xs
-length-elements facts a [] = refl
-length-elements facts a (x ∷ xs) = ap suc (length-elements facts a xs)
-
 module _ (facts query : Text) (a : ℕ) (f : FactLine) (small : f .arity ≤ ARITY) (short : f .«name_len» ≤ WORD-BYTES) where
   -- the relation that the definition speaks of
   relation-line : relation-of facts query (line-word a f) ≡ record { name = fact-at facts a f .name; arity = length (elements-at facts a (items-of f)); text = 0; at = a }
@@ -55,7 +51,7 @@ module _ (facts query : Text) (a : ℕ) (f : FactLine) (small : f .arity ≤ ARI
       let t : line-word a f / 4 % 2 ≡ 0 = ap (λ (p : Part). p .text) q in
       let o : line-word a f / 512 ≡ a = ap (λ (p : Part). p .offset) q in
       let l : length (elements-at facts a (items-of f)) ≡ f .arity
-      = length-elements facts a (items-of f) ∙ length-take-le (f .arity) (f .first ∷ f .second ∷ f .third ∷ []) small in
+      = length-map (items-of f) (element-at facts a) ∙ length-take-le (f .arity) (f .first ∷ f .second ∷ f .third ∷ []) small in
       rw (n, k, t, o, l)
 
   module _ (rs us : List ℕ) (c : Counts) where

@@ -1,16 +1,16 @@
 -- The use of a name after some relations, by where it stands among them.
 use Prim.Native.Nat.{ℕ, suc, _+_, _<_, _≤_}
 use mathlib.Core.Path.{_≡_, refl, sym, ap, _∙_}
-use mathlib.Core.List.{List, [], _∷_, _++_}
+use mathlib.Core.List.{List, [], _∷_, _++_, map-append}
 use mathlib.Core.Bool.{Bool, true, false, cond, not}
 use native.Mathlib.Numerals.{add-one}
 use native.Mathlib.Omega.{arith}
-use lib.ListN.{length, getD, take, drop, set, length-append}
+use lib.ListN.{length, getD, take, drop, set, length-append, length-map}
 use lib.Seq.{length-take-le, set-split, getD-take, append-snoc}
 use borrow.Author.Tests.{le-ltb, lt-ltb, le-leb, lt-leb, eq-eqb, ne-eqb}
 use Rattle.definition.specs.Text.{Text, same, span}
 use Rattle.definition.specs.Answer.{ok}
-use Rattle.definition.specs.Facts.{Relation, arities, add-relation, use-relation}
+use Rattle.definition.specs.Facts.{arities, add-relation, use-relation}
 use Rattle.parts.specs.Packed.{tag-of, text-of}
 use Rattle.parts.specs.Entries.{position, index, note}
 use Rattle.parts.proofs.HeldLaws.{held-first}
@@ -49,14 +49,6 @@ module _ (facts query t : Text) where
       go false h ih = ih (omega arith)
 
 module _ (facts query : Text) (v : ℕ) where
-  map-append : (ws : List ℕ) → relations-of facts query (ws ++ (v ∷ [])) ≡ relations-of facts query ws ++ (relation-of facts query v ∷ [])
-  map-append [] = refl
-  map-append (w ∷ ws) = ap (λ (rs : List Relation). relation-of facts query w ∷ rs) (map-append ws)
-
-  length-relations : (ws : List ℕ) → length (relations-of facts query ws) ≡ length ws
-  length-relations [] = refl
-  length-relations (w ∷ ws) = ap suc (length-relations ws)
-
   module _ (words : List ℕ) (n : ℕ) (within : n ≤ length words) (i : ℕ) (e : i ≡ index facts query v (take n words)) where
     size : length (take n words) ≡ n
     size = length-take-le n words within
@@ -92,20 +84,20 @@ module _ (facts query : Text) (v : ℕ) where
       pub relation-full : n ≡ length words → RelationUsed facts query v words words n Full
       unfolding use-relation add-relation
       relation-full d =
-          let m : length words ≤ length (relations-of facts query (take n words)) = omega (arith, size, length-relations (take n words)) in
+          let m : length words ≤ length (relations-of facts query (take n words)) = omega (arith, size, length-map (take n words) (relation-of facts query)) in
           λ k p. rw (no-arity, le-leb (length words) (length (relations-of facts query (take n words))) m)
 
       pub relation-new : n < length words → RelationUsed facts query v words (set words n v) n (Count (n + 1))
       unfolding use-relation note add-relation
       relation-new d =
           let t = le-ltb (index facts query v (take n words)) (length (take n words)) (omega (arith, past)) in
-          let m : length (relations-of facts query (take n words)) < length words = omega (arith, size, length-relations (take n words)) in (
+          let m : length (relations-of facts query (take n words)) < length words = omega (arith, size, length-map (take n words) (relation-of facts query)) in (
             rw t (record {
               count = sym (length-append (take n words) (v ∷ []) ∙ ap (λ (k : ℕ). k + 1) size);
               room = omega arith;
               is = set-new;
             }),
-            λ k p. rw (no-arity, lt-leb (length words) (length (relations-of facts query (take n words))) m, t) (ap ok (sym (map-append (take n words)))),
+            λ k p. rw (no-arity, lt-leb (length words) (length (relations-of facts query (take n words))) m, t) (ap ok (sym (map-append (relation-of facts query) (take n words) (v ∷ [])))),
           )
         where
           set-new : set words n v ≡ take n words ++ (v ∷ []) ++ drop (n + 1) words

@@ -1,10 +1,10 @@
 -- A line taken in: what its role says of the definition's pass, and that a part of a line is a part of the text.
 use Prim.Native.Nat.{ℕ, zero, suc, _+_, _-_, _≤_}
 use mathlib.Core.Path.{_≡_, refl, sym, ap, ap₂, _∙_}
-use mathlib.Core.List.{List, [], _∷_, map, append-nil}
+use mathlib.Core.List.{List, [], _∷_, map, append-nil, map-map}
 use mathlib.Core.Bool.{Bool, true, false, cond}
 use native.Mathlib.Omega.{arith}
-use lib.ListN.{length, take, drop, length-drop}
+use lib.ListN.{length, take, drop, length-drop, length-map}
 use lib.Seq.{length-take-le, take-take, drop-drop}
 use Rattle.definition.specs.Text.{Text, ascii, starts, gather}
 use Rattle.definition.specs.Answer.{Answer, ok, refused, refusal}
@@ -23,7 +23,6 @@ use Rattle.facts.specs.Lines.{start-of, items-of, element-of, elements-o
 use Rattle.facts.specs.Words.{element-at, elements-at, fact-at, item-word, line-word, element-word, fact-word}
 use Rattle.facts.specs.Pass.{with-elements, FactTaken}
 use Rattle.facts.specs.Reading.{line-facts, line-of, Taken, more-relations, more-elements}
-use Rattle.facts.proofs.FactLaws.{length-elements}
 
 -- what a role says
 by-role : Bool → Bool → Answer Fact → Role
@@ -93,10 +92,6 @@ three {A} f g (suc (suc (suc (suc k)))) x y z p q r = rw (p, q, r)
 pub line-size : (facts : Text) (a e : ℕ) → a ≤ e → e ≤ length facts → length (take (e - a) (drop a facts)) ≡ e - a
 line-size facts a e h w = length-take-le (e - a) (drop a facts) (rw length-drop (omega arith))
 
-map-twice : {A B : Type 0} (g : A → B) (f : Item → A) (xs : List Item) → map g (map f xs) ≡ map (λ x. g (f x)) xs
-map-twice g f [] = refl
-map-twice {A} {B} g f (x ∷ xs) = ap (λ (ys : List B). g (f x) ∷ ys) (map-twice g f xs)
-
 offset-same : (b : Bool) (a p : ℕ) → cond b (suc (a + p)) (a + p) ≡ a + cond b (p + 1) p
 offset-same true a p = omega arith
 offset-same false a p = refl
@@ -128,12 +123,12 @@ module _ (facts query : Text) (a e : ℕ) (h : a ≤ e) (w : e ≤ length facts)
   name-word : fact-word (fact-at facts a f) ≡ line-word a f
   name-word =
       let n : length (take (f .«name_len») (drop a facts)) ≡ f .«name_len» = length-take-le (f .«name_len») (drop a facts) (rw length-drop (omega (arith, size, b .name-end))) in
-      let k : length (elements-at facts a (items-of f)) ≡ f .arity = length-elements facts a (items-of f) ∙ length-take-le (f .arity) (f .first ∷ f .second ∷ f .third ∷ []) (b .arity) in
+      let k : length (elements-at facts a (items-of f)) ≡ f .arity = length-map (items-of f) (element-at facts a) ∙ length-take-le (f .arity) (f .first ∷ f .second ∷ f .third ∷ []) (b .arity) in
       ap₂ (λ (i j : ℕ). pack 0 a i j) n k
 
   item-words : map element-word (elements-at facts a (items-of f)) ≡ map (item-word a) (items-of f)
   item-words =
-      map-twice element-word (element-at facts a) (items-of f)
+      map-map element-word (element-at facts a) (items-of f)
       ∙ three (λ x. element-word (element-at facts a x)) (item-word a) (f .arity) (f .first) (f .second) (f .third) (word-same (f .first) (b .first)) (word-same (f .second) (b .second)) (word-same (f .third) (b .third))
 
   module _ (said : says (ok (fact-of (take (e - a) (drop a facts)) a f)) ≡ role (line-of facts a e)) (rs rs′ us us′ : List ℕ) (c : Counts) where

@@ -1,7 +1,7 @@
 -- The elements of a fact entered into the universe, one after another.
 use Prim.Native.Nat.{ℕ, zero, suc, _+_, _-_, _<_, _≤_}
 use mathlib.Core.Path.{_≡_, refl, sym, ap, subst, _∙_}
-use mathlib.Core.List.{List, [], _∷_, _++_, map}
+use mathlib.Core.List.{List, [], _∷_, _++_, map, map-append}
 use mathlib.Core.Bool.{Bool, true, false, cond}
 use native.Mathlib.Numerals.{add-one}
 use native.Mathlib.Omega.{arith}
@@ -63,10 +63,6 @@ module _ (f : FactLine) (small : f .arity ≤ ARITY) (i : ℕ) (h : i < f .arity
   pub items-to : take (i + 1) (items-of f) ≡ take i (items-of f) ++ (item-at f i ∷ [])
   items-to = ap (λ (k : ℕ). take k (items-of f)) (add-one i) ∙ take-suc (items-of f) i (f .third) inside ∙ ap (λ (x : Item). take i (items-of f) ++ (x ∷ [])) the-item
 
-map-append : (g : Item → ℕ) (xs : List Item) (x : Item) → map g (xs ++ (x ∷ [])) ≡ map g xs ++ (g x ∷ [])
-map-append g [] x = refl
-map-append g (y ∷ xs) x = ap (λ (ws : List ℕ). g y ∷ ws) (map-append g xs x)
-
 module _ (facts query : Text) (a : ℕ) (f : FactLine) (old : List ℕ) (n : ℕ) where
   -- the universe with the first i elements
   unfoldable pub entered-to : ℕ → List ℕ
@@ -110,7 +106,7 @@ module _ (facts query : Text) (a : ℕ) (f : FactLine) (old : List ℕ) (n : ℕ
       one-more =
           ap (enter facts query v) (held-take (h .held))
           ∙ sym (ap (λ (xs : List Item). enter-all facts query (map (item-word a) xs) (take n old)) (items-to f small i l)
-          ∙ ap (λ (ws : List ℕ). enter-all facts query ws (take n old)) (map-append (item-word a) (take i (items-of f)) (item-at f i))
+          ∙ ap (λ (ws : List ℕ). enter-all facts query ws (take n old)) (map-append (item-word a) (take i (items-of f)) (item-at f i ∷ []))
           ∙ enter-all-append facts query (map (item-word a) (take i (items-of f))) (v ∷ []) (take n old))
 
       -- the definition's step

@@ -2,7 +2,7 @@
 use Prim.Native.Nat.{ℕ, zero, suc, _+_, _-_, _<_, _≤_}
 use mathlib.Core.Path.{_≡_, refl, sym, ap, _∙_}
 use mathlib.Core.List.{[], _∷_}
-use mathlib.Core.Bool.{Bool, true, false, _&&_, not, cond}
+use mathlib.Core.Bool.{Bool, true, false, _&&_, not, cond, and-true}
 use native.Mathlib.Numerals.{add-one}
 use native.Mathlib.Nat.{add-assoc}
 use native.Mathlib.Omega.{arith}
@@ -149,10 +149,6 @@ module _ (l : Text) (j b : ℕ) (within : j ≤ length l) (r : b ≡ j + span is
   next-nothing h i = let g : length l ≤ b = omega arith in next-is i ∙ rw (drop-of-length-le l)
 
 -- the first byte of a line
-and-true : (b : Bool) → b && true ≡ b
-and-true true = refl
-and-true false = refl
-
 pub starts-empty : (b : ℕ) (l : Text) → length l ≡ 0 → false ≡ starts (b ∷ []) l
 unfolding starts
 starts-empty b [] h = refl

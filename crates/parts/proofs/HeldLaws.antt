@@ -5,7 +5,7 @@ use mathlib.Core.List.{List, [], _∷_, _++_}
 use mathlib.Core.Bool.{Bool, true, false, cond}
 use native.Mathlib.Omega.{arith}
 use lib.Dec.{ltb}
-use lib.ListN.{length, take, drop, length-append, length-drop, take-append-drop}
+use lib.ListN.{length, take, drop, length-append, length-drop, take-append-drop, length-map}
 use lib.Seq.{take-at, drop-at, drop-drop, length-take-le}
 use borrow.Author.Tests.{ltb-false, ltb-true}
 use Rattle.definition.specs.Text.{Text, same, earlier}
@@ -18,8 +18,7 @@ use Rattle.parts.specs.declared.Entered.the-variants.{Count, Full}
 use Rattle.parts.proofs.PackLaws.{quoted-part}
 
 pub length-texts : (facts query : Text) (ws : List ℕ) → length (texts-of facts query ws) ≡ length ws
-length-texts facts query [] = refl
-length-texts facts query (w ∷ ws) = ap suc (length-texts facts query ws)
+length-texts facts query ws = length-map ws (text-of facts query)
 
 quoted-text : (facts query : Text) (v w : ℕ) → text-of facts query (quoted-too v w) ≡ text-of facts query w
 unfolding text-of

@@ -2,7 +2,7 @@
 use Prim.Native.Nat.{ℕ, _+_, _<_, _≤_}
 use mathlib.Core.Path.{_≡_, refl}
 use mathlib.Core.List.{[], _∷_}
-use mathlib.Core.Bool.{Bool, true, false, _&&_, cond}
+use mathlib.Core.Bool.{Bool, true, false, _&&_, cond, and-false}
 use native.Mathlib.Numerals.{add-one}
 use native.Mathlib.Omega.{arith}
 use lib.Dec.{eqb}
@@ -48,10 +48,6 @@ module _ (s t : Text) (i : ℕ) where
   pub same-end : length s ≤ i → length t ≤ i → same (drop i s) (drop i t) ≡ true
   unfolding same
   same-end hs ht = rw (drop-of-length-le s, drop-of-length-le t)
-
-and-false : (b : Bool) → b && false ≡ false
-and-false true = refl
-and-false false = refl
 
 pub same-length : (s t : Text) → (length s ≡ length t → ⊥) → same s t ≡ false
 unfolding same

@@ -1,7 +1,7 @@
 -- The facts loaded one after the other make the definition's tables.
 use Prim.Native.Nat.{ℕ, suc, _+_, _<_, _≤_, suc-le-suc}
 use mathlib.Core.Path.{_≡_, refl, sym, ap, ap₂, _∙_, subst}
-use mathlib.Core.Bool.{Bool, true, false, _&&_, _||_}
+use mathlib.Core.Bool.{Bool, true, false, _&&_, _||_, or-false, or-assoc}
 use mathlib.Core.List.{List, [], _∷_, _++_, map}
 use native.Mathlib.Nat.{zero-lt-suc}
 use native.Mathlib.Omega.{arith}
@@ -63,18 +63,10 @@ values-same o (one l e n) [] h = refl
 values-same {us} o (one {e = x} {a = a} l e n) (b ∷ t) h =
     ap₂ _&&_ (ap (same (getD us b [])) (sym e) ∙ texts-apart us b a o (h .0) l) (values-same o n t (h .1))
 
-or-false : (b : Bool) → b || false ≡ b
-or-false true = refl
-or-false false = refl
-
-some-snoc : {A : Type 0} (p : A → Bool) (xs : List A) (y : A) → some-of p (xs ++ (y ∷ [])) ≡ some-of p xs || p y
+pub some-snoc : {A : Type 0} (p : A → Bool) (xs : List A) (y : A) → some-of p (xs ++ (y ∷ [])) ≡ some-of p xs || p y
 unfolding some-of
 some-snoc p [] y = or-false (p y)
-some-snoc p (x ∷ xs) y = ap (λ (b : Bool). p x || b) (some-snoc p xs y) ∙ sym (assoc (p x) (some-of p xs) (p y))
-  where
-    assoc : (a b c : Bool) → (a || b) || c ≡ a || (b || c)
-    assoc true b c = refl
-    assoc false b c = refl
+some-snoc p (x ∷ xs) y = ap (λ (b : Bool). p x || b) (some-snoc p xs y) ∙ sym (or-assoc (p x) (some-of p xs) (p y))
 
 -- ---- relations by name
 

@@ -1,7 +1,7 @@
 -- Words that are a table's, and a tuple added to a table.
 use Prim.Native.Nat.{ℕ, zero, suc, _+_, _*_, _/_, _%_, _^_, _<_, _≤_}
 use mathlib.Core.Path.{_≡_, refl, sym, ap, ap₂, _∙_, subst}
-use mathlib.Core.Bool.{Bool, true, false, _||_}
+use mathlib.Core.Bool.{Bool, true, false, _||_, or-false}
 use mathlib.Core.List.{List, [], _∷_, _++_, append-assoc}
 use mathlib.Core.Logic.{_⊎_, inl, inr, ⊎-elim}
 use native.Mathlib.Nat.{add-zero, zero-add, add-suc, suc-add, mul-comm, zero-mul, pow-zero, pow-suc, not-suc-le-zero, zero-lt-suc, div-add-mod, div-lt-iff-lt-mul, lt-of-lt-of-le, le-trans, pow-le-pow-left, pow-le-pow-right}
@@ -123,10 +123,6 @@ unfolding with-tuple
 with-past u ws t h = sym (set-out ws (word-at u 0 t) _ h)
 
 -- ---- one tuple more
-
-or-false : (b : Bool) → b || false ≡ b
-or-false true = refl
-or-false false = refl
 
 is-true : (b : Bool) → T b → b ≡ true
 is-true true t = refl
