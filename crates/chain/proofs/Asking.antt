@@ -11,7 +11,7 @@ use lib.Seq.{length-take-le}
 use Rattle.definition.specs.Text.{Text, some-of}
 use Rattle.definition.specs.Limits.{FACT-BYTES, CHAIN-BYTES, document-01}
 use Rattle.definition.specs.Answer.{Answer, ok, refused, _>>_, refuse-if}
-use Rattle.definition.specs.Facts.{Facts, arities, read-facts, Ascending}
+use Rattle.definition.specs.Facts.{Facts, arities, read-facts, Ascending, Ascending}
 use Rattle.definition.specs.Calls.{Asked, ChainMeets, numbers-of, chain-asked, chain-meets}
 use Rattle.definition.specs.declared.Chained.{Chained}
 use Rattle.definition.specs.declared.Chained.the-variants.{Refused as not-chained}
@@ -19,8 +19,9 @@ use Rattle.definition.specs.declared.Refusal.{Refusal}
 use Rattle.definition.specs.declared.Refusal.the-variants.{NotInFacts, BufferShort}
 use Rattle.definition.specs.Meaning.{numbers}
 use Rattle.definition.proofs.AcceptLaws.{was-ok, not-refused, facts-universe}
-use Rattle.parts.specs.Entries.{texts-of}
+use Rattle.parts.specs.Entries.{position, texts-of}
 use Rattle.parts.proofs.HeldLaws.{held-length, held-take}
+use Rattle.parts.proofs.PositionLaws.{position-number, position-no-number}
 use Rattle.facts.specs.Reading.{all-facts, Meets}
 use Rattle.facts.specs.Words.{relations-of}
 use Rattle.facts.specs.declared.Counts.{Counts}
@@ -28,9 +29,8 @@ use Rattle.facts.specs.declared.FactsRead.{FactsRead}
 use Rattle.facts.specs.declared.FactsRead.the-variants.{Given, Refused}
 use Rattle.chains.specs.Search.{Searched}
 use Rattle.chains.proofs.Search.{search-meets}
-use Rattle.chain.specs.Fill.{place, fill}
+use Rattle.chain.specs.Fill.{fill}
 use Rattle.chain.specs.Asking.{asked-between, asked, facts-in, AreRead}
-use Rattle.chain.proofs.Places.{number-known, number-unknown}
 use Rattle.chain.proofs.Rows.{rows-filled, length-filled}
 
 -- ---- facts that were read
@@ -39,8 +39,8 @@ pub read-short : (facts : Text) (f : Facts) → read-facts document-01 facts ≡
 unfolding read-facts
 read-short facts f e = ltb-false FACT-BYTES (length facts) (not-refused (ltb FACT-BYTES (length facts)) 1 FACT-BYTES (was-ok (refuse-if (ltb FACT-BYTES (length facts)) 1 FACT-BYTES) _ f e))
 
-pub read-ascending : (facts : Text) (rs us : List ℕ) → read-facts document-01 facts ≡ ok (facts-in facts rs us) → Ascending (texts-of facts facts us)
-read-ascending facts rs us e = facts-universe document-01 facts (facts-in facts rs us) e .ascending
+pub read-ascending : {facts : Text} {rs us : List ℕ} → AreRead facts rs us → Ascending (texts-of facts facts us)
+read-ascending {facts} {rs} {us} h = facts-universe document-01 facts (facts-in facts rs us) (h .read) .ascending
 
 pub asked-read : (facts r s t : Text) (room : ℕ) (f : Facts) → read-facts document-01 facts ≡ ok f → chain-asked document-01 facts r s t room ≡ asked f r s t room
 unfolding chain-asked asked asked-between
@@ -131,12 +131,12 @@ pub between : (facts : Text) (ws rs₀ : List ℕ) (r : Text) → AreRead facts 
 unfolding asked-between
 between facts ws rs₀ r h rows₀ rows e d a b buffer c buffer′ s rs =
     search-meets (facts-in facts rs ws) r rows
-    (d ∙ ap (λ (l : List ℕ). fill facts ws r l (all-facts facts)) e ∙ rows-filled facts ws r (relations-of facts facts rs) (read-ascending facts rs₀ ws (h .read)) (h .few) (all-facts facts))
+    (d ∙ ap (λ (l : List ℕ). fill facts ws r l (all-facts facts)) e ∙ rows-filled facts ws r (relations-of facts facts rs) (read-ascending h) (h .few) (all-facts facts))
     a b buffer c buffer′ s
 
 pub rows-length : (facts : Text) (ws rs₀ : List ℕ) (r : Text) → AreRead facts rs₀ ws → (rows₀ rows : List ℕ) → rows₀ ≡ replicate (length ws) 0 → rows ≡ fill facts ws r rows₀ (all-facts facts) → length rows ≡ length ws
 rows-length facts ws rs₀ r h rows₀ rows e d =
-    ap length (d ∙ ap (λ (l : List ℕ). fill facts ws r l (all-facts facts)) e) ∙ length-filled facts ws r [] (read-ascending facts rs₀ ws (h .read)) (h .few) (all-facts facts)
+    ap length (d ∙ ap (λ (l : List ℕ). fill facts ws r l (all-facts facts)) e) ∙ length-filled facts ws r [] (read-ascending h) (h .few) (all-facts facts)
 
 -- ---- the code's tests
 
@@ -149,22 +149,21 @@ refused-16 m r buffer e = subst (λ (k : Answer Asked). chain-meets k r buffer (
 pub short-room : (room : ℕ) → room < CHAIN-BYTES → ltb room CHAIN-BYTES ≡ true
 short-room room h = lt-ltb room CHAIN-BYTES h
 
-pub no-element : (facts t : Text) (ws : List ℕ) (k : ℕ) → k ≡ place facts t ws → k ≡ length ws → eqb (length (numbers t (texts-of facts facts ws) 0)) 0 ≡ true
-no-element facts t ws k e h = ap (λ (l : List ℕ). eqb (length l) 0) (number-unknown facts t ws 0 (omega arith))
+pub no-element : (facts t : Text) (ws : List ℕ) (k : ℕ) → k ≡ position facts facts t ws → k ≡ length ws → eqb (length (numbers t (texts-of facts facts ws) 0)) 0 ≡ true
+no-element facts t ws k e h = ap (λ (l : List ℕ). eqb (length l) 0) (position-no-number facts facts t ws (omega arith))
 
-pub an-element : (facts t : Text) (ws : List ℕ) (k : ℕ) → k ≡ place facts t ws → k ≤ length ws → (k ≡ length ws → ⊥)
+pub an-element : (facts t : Text) (ws : List ℕ) → Ascending (texts-of facts facts ws) → (k : ℕ) → k ≡ position facts facts t ws → k ≤ length ws → (k ≡ length ws → ⊥)
     → (eqb (length (numbers t (texts-of facts facts ws) 0)) 0 ≡ false) × (getD (numbers t (texts-of facts facts ws) 0) 0 0 ≡ k)
-an-element facts t ws k e h n =
-    let l : place facts t ws < length ws = omega arith in
-    let p = number-known facts t ws 0 l in
-    let q = p .1 in (p .0, omega arith)
+an-element facts t ws o k e h n =
+    let q = position-number facts facts t ws o (omega arith) in
+    (ap (λ (l : List ℕ). eqb (length l) 0) q, ap (λ (l : List ℕ). getD l 0 0) q ∙ sym e)
 
-pub in-facts : (facts r s t : Text) (rs us : List ℕ) (room a b : ℕ) → some-of (eqb 2) (arities r (relations-of facts facts rs)) ≡ true
-    → a ≡ place facts s us → a ≤ length us → (a ≡ length us → ⊥) → b ≡ place facts t us → b ≤ length us → (b ≡ length us → ⊥) → CHAIN-BYTES ≤ room
+pub in-facts : (facts r s t : Text) (rs us : List ℕ) → Ascending (texts-of facts facts us) → (room a b : ℕ) → some-of (eqb 2) (arities r (relations-of facts facts rs)) ≡ true
+    → a ≡ position facts facts s us → a ≤ length us → (a ≡ length us → ⊥) → b ≡ position facts facts t us → b ≤ length us → (b ≡ length us → ⊥) → CHAIN-BYTES ≤ room
     → asked (facts-in facts rs us) r s t room ≡ asked-between (facts-in facts rs us) r a b
-in-facts facts r s t rs us room a b x e h n d l m w =
-    let p = an-element facts s us a e h n in
-    let q = an-element facts t us b d l m in
+in-facts facts r s t rs us o room a b x e h n d l m w =
+    let p = an-element facts s us o a e h n in
+    let q = an-element facts t us o b d l m in
     all-there (facts-in facts rs us) r s t room x (p .0) (q .0) (le-ltb room CHAIN-BYTES w)
     ∙ ap₂ (asked-between (facts-in facts rs us) r) (p .1) (q .1)
 

@@ -1,7 +1,7 @@
 -- The rows filled fact by fact are the table of the name's pairs.
-use Prim.Native.Nat.{ℕ, zero, _+_, _*_, _<_, _≤_}
+use Prim.Native.Nat.{ℕ, _+_, _*_, _<_, _≤_}
 use mathlib.Core.Path.{_≡_, refl, sym, ap, ap₂, _∙_}
-use mathlib.Core.Bool.{Bool, true, false, cond, _&&_, _||_}
+use mathlib.Core.Bool.{Bool, true, false, cond, _&&_, _||_, and-false, or-false, and-assoc, and-true}
 use mathlib.Core.List.{List, [], _∷_, _++_, append-assoc, append-nil}
 use native.Mathlib.Omega.{arith}
 use native.Mathlib.Decide.{decLt}
@@ -16,22 +16,19 @@ use Rattle.definition.specs.Tables.{Tuple, table, table-words}
 use Rattle.definition.specs.Calls.{is-element, is-pair}
 use Rattle.definition.proofs.TableLaws.{Below, length-table}
 use Rattle.bits.specs.Bits.{with-bit}
-use Rattle.parts.specs.Entries.{texts-of}
+use Rattle.parts.specs.Entries.{position, texts-of}
 use Rattle.parts.proofs.HeldLaws.{length-texts}
 use Rattle.facts.specs.Lines.{items-of}
 use Rattle.facts.specs.Words.{element-at, elements-at, fact-at}
 use Rattle.facts.specs.declared.FactLine.{FactLine}
 use Rattle.tuples.specs.Places.{with-tuple}
 use Rattle.tuples.proofs.Tables.{table-same, table-none, insert-table}
+use Rattle.tuples.proofs.Loading.{some-snoc}
 use Rattle.closure.proofs.Laws.{rows-table}
-use Rattle.chain.specs.Fill.{place, value-at, with-pair, with-fact, fill}
+use Rattle.chain.specs.Fill.{value-at, with-pair, with-fact, fill}
 use Rattle.chain.proofs.Places.{element-only}
 
 -- ---- a pair and a fact added, by the tests of the code
-
-and-false : (b : Bool) → b && false ≡ false
-and-false true = refl
-and-false false = refl
 
 module _ (rows : List ℕ) (a b : ℕ) where
   abbrev added : Bool → List ℕ
@@ -51,7 +48,7 @@ module _ (rows : List ℕ) (a b : ℕ) where
 
 module _ (facts : Text) (ws : List ℕ) (r : Text) (rows : List ℕ) (g : Fact) where
   abbrev paired : List ℕ
-  paired = with-pair rows (place facts (value-at (g .elements) 0) ws) (place facts (value-at (g .elements) 1) ws)
+  paired = with-pair rows (position facts facts (value-at (g .elements) 0) ws) (position facts facts (value-at (g .elements) 1) ws)
 
   pub fact-other-name : same r (g .name) ≡ false → rows ≡ with-fact facts ws r rows g
   unfolding with-fact
@@ -82,35 +79,14 @@ module _ (facts : Text) (ws : List ℕ) (r : Text) (rows : List ℕ) (a : ℕ) (
   line-other-arity h n = fact-other-arity facts ws r rows (fact-at facts a f) (ne-eqb (length (elements-at facts a (items-of f))) 2 (λ e. n (sym (arity-is h) ∙ e)))
 
   pub line-adds : (x y : ℕ) → same r (take (f .«name_len») (drop a facts)) ≡ true → f .arity ≤ ARITY → f .arity ≡ 2
-      → x ≡ place facts (element-at facts a (f .first) .value) ws → y ≡ place facts (element-at facts a (f .second) .value) ws
+      → x ≡ position facts facts (element-at facts a (f .first) .value) ws → y ≡ position facts facts (element-at facts a (f .second) .value) ws
       → with-pair rows x y ≡ with-fact facts ws r rows (fact-at facts a f)
   line-adds x y e h n p q =
-      ap₂ (with-pair rows) (p ∙ ap (λ (k : ℕ). place facts (value-at (elements-at facts a (take k (f .first ∷ f .second ∷ f .third ∷ []))) 0) ws) (sym n))
-      (q ∙ ap (λ (k : ℕ). place facts (value-at (elements-at facts a (take k (f .first ∷ f .second ∷ f .third ∷ []))) 1) ws) (sym n))
+      ap₂ (with-pair rows) (p ∙ ap (λ (k : ℕ). position facts facts (value-at (elements-at facts a (take k (f .first ∷ f .second ∷ f .third ∷ []))) 0) ws) (sym n))
+      (q ∙ ap (λ (k : ℕ). position facts facts (value-at (elements-at facts a (take k (f .first ∷ f .second ∷ f .third ∷ []))) 1) ws) (sym n))
       ∙ fact-adds facts ws r rows (fact-at facts a f) e (eq-eqb (length (elements-at facts a (items-of f))) 2 (arity-is h ∙ n))
 
 -- ---- the table of the pairs
-
-or-false : (b : Bool) → b || false ≡ b
-or-false true = refl
-or-false false = refl
-
-and-assoc : (a b c : Bool) → (a && b) && c ≡ a && (b && c)
-and-assoc true b c = refl
-and-assoc false b c = refl
-
-and-true : (b : Bool) → b && true ≡ b
-and-true true = refl
-and-true false = refl
-
-some-snoc : (p : Fact → Bool) (xs : List Fact) (y : Fact) → some-of p (xs ++ (y ∷ [])) ≡ some-of p xs || p y
-unfolding some-of
-some-snoc p [] y = or-false (p y)
-some-snoc p (x ∷ xs) y = ap (λ (b : Bool). p x || b) (some-snoc p xs y) ∙ sym (assoc (p x) (some-of p xs) (p y))
-  where
-    assoc : (a b c : Bool) → (a || b) || c ≡ a || (b || c)
-    assoc true b c = refl
-    assoc false b c = refl
 
 two : (u : ℕ) (p q : Tuple → Bool) → ((x y : ℕ) → x < u → y < u → p (x ∷ y ∷ []) ≡ q (x ∷ y ∷ [])) → (t : Tuple) → length t ≡ 2 → Below u t → p t ≡ q t
 two u p q f [] l h = absurd (omega arith)
@@ -135,15 +111,15 @@ module _ (facts : Text) (ws : List ℕ) (r : Text) (rs : List Relation) (order :
   pairs gs = table u 2 (test gs)
 
   abbrev first : Fact → ℕ
-  first g = place facts (value-at (g .elements) 0) ws
+  first g = position facts facts (value-at (g .elements) 0) ws
 
   abbrev second : Fact → ℕ
-  second g = place facts (value-at (g .elements) 1) ws
+  second g = position facts facts (value-at (g .elements) 1) ws
 
   abbrev binary : Fact → Bool
   binary g = same r (g .name) && eqb (length (g .elements)) 2
 
-  element : (g : Fact) (i x : ℕ) → x < u → is-element (given []) (g .elements) i x ≡ eqb x (place facts (value-at (g .elements) i) ws)
+  element : (g : Fact) (i x : ℕ) → x < u → is-element (given []) (g .elements) i x ≡ eqb x (position facts facts (value-at (g .elements) i) ws)
   element g i x h =
       ap (λ (t : Bool). t && same (value-at (g .elements) i) (getD us x [])) (lt-ltb x u h)
       ∙ element-only facts (value-at (g .elements) i) ws order x (let k = length-texts facts facts ws in omega arith)

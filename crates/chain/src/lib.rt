@@ -11,7 +11,7 @@ ghost use Rattle.definition.specs.Calls.{ChainMeets, chain-meets};
 ghost use Rattle.facts.specs.Lines.{AllWithin};
 ghost use Rattle.facts.specs.Words.{element-at, fact-at, relations-of};
 ghost use Rattle.facts.specs.Reading.{all-facts};
-ghost use Rattle.chain.specs.Fill.{place, with-pair, with-fact, fill};
+ghost use Rattle.chain.specs.Fill.{with-pair, with-fact, fill};
 ghost use Rattle.chain.specs.Asking.{asked-between, asked, facts-in, AreRead};
 use bits::set_bit;
 use chains::find_chain;
@@ -23,31 +23,16 @@ use facts::Item;
 use facts::NextFact;
 use facts::next_fact;
 use facts::read_facts;
+use facts::value_start;
 use parts::part;
-use parts::text_of;
+use parts::position_of;
 use texts::same;
-
-// The index of the first of the parts that has the text t; their number, if none has.
-fn place_of(facts: &[u8], parts: &[usize], t: &[u8]) -> usize
-    ensures value { λ r. ⌜ r ≡ place (now (facts .entry)) (now (t .entry)) (now (parts .entry)) ⌝ }
-    ensures within { λ r. ⌜ r ≤ length (now (parts .entry)) ⌝ }
-{
-    let mut k: usize = 0;
-    while k < parts.len() {
-        let w = parts[k];
-        if same(t, text_of(facts, facts, w)) {
-            return k;
-        }
-        k += 1;
-    }
-    k
-}
 
 // Whether there is a binary relation of the name.
 fn is_binary(facts: &[u8], relations: &[usize], name: &[u8]) -> bool
     ensures { λ r. ⌜ r ≡ some-of (eqb 2) (arities (now (name .entry)) (relations-of (now (facts .entry)) (now (facts .entry)) (now (relations .entry)))) ⌝ }
 {
-    let k = place_of(facts, relations, name);
+    let k = position_of(facts, facts, relations, name);
     if k < relations.len() {
         return 2 == relations[k] % 4;
     }
@@ -59,11 +44,7 @@ fn value_of(facts: &[u8], a: usize, x: Item) -> &[u8]
     requires { ⌜ (a ≤ FACT-BYTES) × (x .place ≤ FACT-BYTES) ⌝ }
     ensures { λ r. ⌜ now r ≡ element-at (now (facts .entry)) a x .value ⌝ }
 {
-    let p = x.place;
-    if x.quoted {
-        return part(facts, a + (p + 1), x.len);
-    }
-    part(facts, a + p, x.len)
+    part(facts, a + value_start(x), x.len)
 }
 
 // Adds the pair of a and b to the rows, unless one of them is no element's number.
@@ -90,8 +71,8 @@ fn add_fact(facts: &[u8], universe: &[usize], name: &[u8], a: usize, f: FactLine
     if f.arity != 2 {
         return;
     }
-    let x = place_of(facts, universe, value_of(facts, a, f.first));
-    let y = place_of(facts, universe, value_of(facts, a, f.second));
+    let x = position_of(facts, facts, universe, value_of(facts, a, f.first));
+    let y = position_of(facts, facts, universe, value_of(facts, a, f.second));
     add_pair(rows, x, y);
 }
 
@@ -147,11 +128,11 @@ fn chain_in(
         return Chained::Refused(Refusal::NotInFacts);
     }
     let u = universe.len();
-    let a = place_of(facts, universe, first);
+    let a = position_of(facts, facts, universe, first);
     if a == u {
         return Chained::Refused(Refusal::NotInFacts);
     }
-    let b = place_of(facts, universe, second);
+    let b = position_of(facts, facts, universe, second);
     if b == u {
         return Chained::Refused(Refusal::NotInFacts);
     }

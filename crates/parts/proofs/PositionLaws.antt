@@ -9,7 +9,8 @@ use lib.Dec.{T}
 use lib.ListN.{length, getD}
 use Rattle.definition.specs.Text.{Text, same, span, member, some-of}
 use Rattle.definition.specs.Meaning.{numbers}
-use Rattle.definition.proofs.UniverseLaws.{Ascending, number-of, no-number}
+use Rattle.definition.specs.Facts.{Ascending}
+use Rattle.definition.proofs.UniverseLaws.{number-of, no-number}
 use Rattle.parts.specs.Packed.{text-of}
 use Rattle.parts.specs.Entries.{position, texts-of}
 use Rattle.parts.proofs.HeldLaws.{length-texts}

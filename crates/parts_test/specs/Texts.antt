@@ -3,7 +3,7 @@ use Prim.Native.Nat.{ℕ}
 use mathlib.Core.List.{List, [], _∷_}
 use lib.ListN.{take}
 use Rattle.definition.specs.Text.{Text, ascii}
-use Rattle.definition.proofs.UniverseLaws.{Ascending}
+use Rattle.definition.specs.Facts.{Ascending}
 use Rattle.parts.specs.Entries.{enter, in-front, count-in, texts-of}
 use Rattle.parts_test.specs.Counts.{count-of}
 

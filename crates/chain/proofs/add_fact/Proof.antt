@@ -2,7 +2,7 @@ use borrow.Author.Needs.{needs}
 use mathlib.Core.Path.{sym, ap, _∙_}
 use Rattle.definition.specs.Text.{Text, same}
 use Rattle.facts.specs.Words.{fact-at}
-use Rattle.chain.specs.Fill.{place}
+use Rattle.parts.specs.Entries.{position}
 use Rattle.chain.proofs.Rows.{fact-other-name, line-other-arity, line-adds}
 use borrow.Author.Tests.{not-true, not-false}
 use Rattle.chain.proofs.add_fact.Statement.{statement}
@@ -27,14 +27,14 @@ returns-2 c =
 value-of-requires : tie.Need-value-of-requires
 value-of-requires c κs = search needs
 
-place-of-requires : tie.Need-place-of-requires
-place-of-requires c κs = search needs
+position-of-requires : tie.Need-position-of-requires
+position-of-requires c κs = search needs
 
 value-of-requires-2 : tie.Need-value-of-requires-2
 value-of-requires-2 c κs = search needs
 
-place-of-requires-2 : tie.Need-place-of-requires-2
-place-of-requires-2 c κs = search needs
+position-of-requires-2 : tie.Need-position-of-requires-2
+position-of-requires-2 c κs = search needs
 
 add-pair-requires : tie.Need-add-pair-requires
 add-pair-requires c κs = search needs
@@ -47,8 +47,8 @@ returns-3 c =
     let a = c .before .before .before .before .before .before .before .before .before .before .before .before .before .before .before .before .before .args in
     c .before .before .add-pair .ensures
     ∙ line-adds (a .facts .now) (a .universe .now) (a .name .now) (a .rows .now) (a .a) (a .f) _ _ (ap (same (a .name .now)) (sym (c .before .before .before .before .before .before .before .before .before .before .before .before .part .ensures)) ∙ sym (c .before .before .before .before .before .before .before .before .before .before .before .same .ensures) ∙ not-false _ (c .before .before .before .before .before .before .before .before .before .before .if1 .left)) (c .before .before .before .before .before .before .before .before .before .before .before .before .before .before .before .before .before .pre .2 .arity) (c .before .before .before .before .before .before .before .before .if2 .left)
-    (c .before .before .before .before .before .before .place-of .ensures .0 ∙ ap (λ (t : Text). place (a .facts .now) t (a .universe .now)) (c .before .before .before .before .before .before .before .value-of .ensures))
-    (c .before .before .before .before .place-of2 .ensures .0 ∙ ap (λ (t : Text). place (a .facts .now) t (a .universe .now)) (c .before .before .before .before .before .value-of2 .ensures))
+    (c .before .before .before .before .before .before .position-of .ensures .0 ∙ ap (λ (t : Text). position (a .facts .now) (a .facts .now) t (a .universe .now)) (c .before .before .before .before .before .before .before .value-of .ensures))
+    (c .before .before .before .before .position-of2 .ensures .0 ∙ ap (λ (t : Text). position (a .facts .now) (a .facts .now) t (a .universe .now)) (c .before .before .before .before .before .value-of2 .ensures))
 
 pub add-fact-spec : {M : Type 1} → statement M
 add-fact-spec =
@@ -59,9 +59,9 @@ add-fact-spec =
     returns
     returns-2
     value-of-requires
-    place-of-requires
+    position-of-requires
     value-of-requires-2
-    place-of-requires-2
+    position-of-requires-2
     add-pair-requires
     same-length
     returns-3)
