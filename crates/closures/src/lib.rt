@@ -1,11 +1,8 @@
 // The closures of a statement: each is worked out once, into its own table of the store, before the statement is evaluated.
 ghost use mathlib.Core.Path.{_≡_};
 ghost use Prim.Native.Nat.{_+_, _-_, _<_, _≤_, _%_};
-ghost use lib.ListN.{length, getD, set, replicate, take};
-ghost use lib.Seq.{paste, sets};
-ghost use Rattle.words.specs.Fields.{p-of};
-ghost use Rattle.eval.specs.Nodes.{node-at, child-at, a-of, b-of, c-of};
-ghost use Rattle.eval.specs.Meaning.{world, pairs};
+ghost use lib.ListN.{length, set, replicate};
+ghost use Rattle.eval.specs.Nodes.{node-at, child-at};
 ghost use Rattle.closures.specs.Filling.{fill-at, fill-word, fill-words};
 use closure::close;
 use eval::row;
@@ -21,30 +18,7 @@ fn only(x: u8, a: u8) -> [u8; 8]
     env
 }
 
-// The pairs that the node at place n gives slots x and y, in the u words from o on.
-fn fill_pairs(
-    nodes: &[u64],
-    store: &mut [u64],
-    firsts: &[u64],
-    vars: &[u8],
-    u: u8,
-    n: usize,
-    o: usize,
-    x: u8,
-    y: u8,
-)
-    requires { ⌜ (u < 65) × (o + u ≤ length (now store)) ⌝ }
-    ensures { λ _. ⌜ now (store .exit) ≡ paste (now (store .entry)) o (pairs (world (take o (now (store .entry))) (now (firsts .entry)) (now (vars .entry)) u) (node-at (now (nodes .entry)) n) (x % 8) (y % 8)) u ⌝ }
-{
-    for a in 0..u {
-        let env = only(x, a);
-        let w = row(nodes, &store[..o], firsts, vars, u, n, env, y);
-        let i = o + a as usize;
-        store[i] = w;
-    }
-}
-
-// The closure of these pairs there.
+// The closure of the pairs that the node at place n gives slots x and y, in the u words from o on.
 pub fn fill_closure(
     nodes: &[u64],
     store: &mut [u64],
@@ -59,7 +33,12 @@ pub fn fill_closure(
     requires { ⌜ (u < 65) × (o + u ≤ length (now store)) ⌝ }
     ensures { λ _. ⌜ now (store .exit) ≡ fill-at (now (firsts .entry)) (now (vars .entry)) u o (node-at (now (nodes .entry)) n) (x % 8) (y % 8) (now (store .entry)) ⌝ }
 {
-    fill_pairs(nodes, store, firsts, vars, u, n, o, x, y);
+    for a in 0..u {
+        let env = only(x, a);
+        let w = row(nodes, &store[..o], firsts, vars, u, n, env, y);
+        let i = o + a as usize;
+        store[i] = w;
+    }
     let e = o + u as usize;
     close(&mut store[o..e]);
 }

@@ -2,14 +2,10 @@ use Rattle.eval.proofs.Trees.{child-below}
 use Rattle.closures.proofs.Parts.{past-end}
 use Rattle.closures.proofs.child_place.Statement.{statement}
 use Rattle.closures.proofs.child_place.Tie as tie
-use Rattle.closures.proofs.child_place.Reads as reads
-use Rattle.closures.proofs.child_place.Lts as lts
 
--- src/lib.rt:53:1
 returns : tie.Need-returns
 returns c = let a = c .before .args in child-below (a .nodes .now) (a .k) (a .c) (c .if1 .taken)
 
--- src/lib.rt:53:1
 returns-2 : tie.Need-returns-2
 returns-2 c = let a = c .before .args in past-end (a .nodes .now) (a .k) (a .c) (c .if1 .left)
 

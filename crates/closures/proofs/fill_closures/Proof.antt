@@ -6,9 +6,6 @@ use Rattle.closures.specs.Filling.{fill-words}
 use Rattle.closures.proofs.Fills.{fill-none, fill-next}
 use Rattle.closures.proofs.fill_closures.Statement.{statement}
 use Rattle.closures.proofs.fill_closures.Tie as tie
-use Rattle.closures.proofs.fill_closures.Reads as reads
-use Rattle.closures.proofs.fill_closures.Lts as lts
-use Rattle.closures.proofs.fill_word.Reads as fill-word-reads
 
 abbrev Inv-loop : tie.InvT-loop
 Inv-loop nodes store₀ firsts vars u lo hi k₀ store k =
@@ -17,34 +14,27 @@ Inv-loop nodes store₀ firsts vars u lo hi k₀ store k =
 abbrev μ-loop : tie.MeasureT-loop
 μ-loop nodes store₀ firsts vars u lo hi k₀ store k = hi - k
 
--- src/lib.rt:86:5
 loop-holds : tie.Need-loop-holds Inv-loop μ-loop
 loop-holds c = (refl, refl)
 
--- src/lib.rt:87:9
 fill-word-requires : tie.Need-fill-word-requires Inv-loop μ-loop
 fill-word-requires c κs = omega arith
 
--- src/lib.rt:86:9
 add-k : tie.Need-add-k Inv-loop μ-loop
 add-k c = omega arith
 
--- src/lib.rt:86:5
 loop-less : tie.Need-loop-less Inv-loop μ-loop
 loop-less c = omega arith
 
--- src/lib.rt:86:5
 loop-again : tie.Need-loop-again Inv-loop μ-loop
 loop-again c =
     let a = c .before .before .before .before .before .before .before .before .before .before .args in
     let L = c .before .before .before .before .before .loop in
     (omega arith, fill-next (a .firsts .now) (a .vars .now) (a .u) (a .nodes .now) (a .hi) (L .k) (L .store) _ (c .before .before .before .before .loop-test .taken) (c .before .before .fill-word .ensures) ∙ L .inv .1)
 
--- src/lib.rt:82:1
 same-length : tie.Need-same-length Inv-loop μ-loop
 same-length c = omega arith
 
--- src/lib.rt:82:1
 returns : tie.Need-returns Inv-loop μ-loop
 returns c =
     let a = c .before .before .before .before .before .before .args in

@@ -5,67 +5,49 @@ use Rattle.closures.proofs.Fills.{fill-other, fill-short, fill-here}
 use borrow.Author.Needs.{needs}
 use Rattle.closures.proofs.fill_word.Statement.{statement}
 use Rattle.closures.proofs.fill_word.Tie as tie
-use Rattle.closures.proofs.fill_word.Reads as reads
-use Rattle.closures.proofs.fill_word.Lts as lts
-use Rattle.closures.proofs.child_place.Reads as child-place-reads
-use Rattle.closures.proofs.fill_closure.Reads as fill-closure-reads
-use Rattle.eval.proofs.word_at.Reads as word-at-reads
 
--- src/lib.rt:65:9
 word-at-requires : tie.Need-word-at-requires
 word-at-requires c κs = search needs
 
--- src/lib.rt:67:9
 returns : tie.Need-returns
 returns c =
     let a = c .before .before .before .before .before .before .args in
     fill-other (a .firsts .now) (a .vars .now) (a .u) (a .nodes .now) (a .k) (a .store .now) (c .before .word-at .result) (c .before .word-at .ensures) (c .if1 .taken)
 
--- src/lib.rt:69:29
 add-word-at : tie.Need-add-word-at
 add-word-at c = search needs
 
--- src/lib.rt:69:13
 word-at-requires-2 : tie.Need-word-at-requires-2
 word-at-requires-2 c κs = search needs
 
--- src/lib.rt:72:9
 returns-2 : tie.Need-returns-2
 returns-2 c =
     let a = c .before .before .before .before .before .before .before .before .args in
     fill-short (a .firsts .now) (a .vars .now) (a .u) (a .nodes .now) (a .k) (a .store .now) (c .before .before .before .word-at .result) (c .before .word-at2 .result) (c .before .before .before .word-at .ensures) (c .before .word-at2 .ensures) (omega (arith, c .if2 .taken))
 
--- src/lib.rt:75:9
 returns-3 : tie.Need-returns-3
 returns-3 c =
     let a = c .before .before .before .before .before .before .before .before .before .args in
     fill-short (a .firsts .now) (a .vars .now) (a .u) (a .nodes .now) (a .k) (a .store .now) (c .before .before .before .before .word-at .result) (c .before .before .word-at2 .result) (c .before .before .before .before .word-at .ensures) (c .before .before .word-at2 .ensures) (omega (arith, c .if3 .taken, c .before .if2 .left))
 
--- src/lib.rt:77:35
 cast-child-place : tie.Need-cast-child-place
 cast-child-place c = search needs
 
--- src/lib.rt:77:9
 child-place-requires : tie.Need-child-place-requires
 child-place-requires c κs = search needs
 
--- src/lib.rt:78:55
 cast-fill-closure : tie.Need-cast-fill-closure
 cast-fill-closure c = search needs
 
--- src/lib.rt:78:83
 cast-fill-closure-2 : tie.Need-cast-fill-closure-2
 cast-fill-closure-2 c = search needs
 
--- src/lib.rt:78:5
 fill-closure-requires : tie.Need-fill-closure-requires
 fill-closure-requires c κs = search needs
 
--- src/lib.rt:61:1
 same-length : tie.Need-same-length
 same-length c = search needs
 
--- src/lib.rt:61:1
 returns-4 : tie.Need-returns-4
 returns-4 c =
     let a = c .before .before .before .before .before .before .before .before .before .before .before .before .before .before .args in
