@@ -1,13 +1,13 @@
 -- The elements of an accepted fact, by their numbers in the universe.
 use Prim.Native.Nat.{ℕ, zero, suc, _+_, _<_, _≤_}
 use mathlib.Core.Path.{_≡_, refl, sym, ap, subst, _∙_}
-use mathlib.Core.Bool.{Bool, true, false, _||_, not, cond}
 use mathlib.Core.List.{List, [], _∷_, _++_, map}
 use native.Mathlib.Nat.{mod-eq-of-lt}
 use native.Mathlib.Omega.{arith}
+use native.Mathlib.Decide.{decLt}
 use lib.Dec.{T}
 use lib.ListN.{length, getD, take}
-use Rattle.definition.specs.Text.{Text, same, member, some-of, span}
+use Rattle.definition.specs.Text.{Text, same, member, some-of}
 use Rattle.definition.specs.Limits.{WORD-BYTES, ARITY}
 use Rattle.definition.specs.Facts.{Fact}
 use Rattle.definition.proofs.BoolLaws.{or-left, or-right}
@@ -15,8 +15,9 @@ use Rattle.definition.proofs.MeaningLaws.{same-eq, same-refl}
 use Rattle.definition.proofs.AcceptLaws.{has, in-facts}
 use Rattle.tuples.proofs.Loading.{Numbered, none, one}
 use Rattle.parts.specs.Packed.{pack, text-of}
-use Rattle.parts.specs.Entries.{index, texts-of}
+use Rattle.parts.specs.Entries.{position, index, texts-of}
 use Rattle.parts.proofs.HeldLaws.{length-texts}
+use Rattle.parts.proofs.PositionLaws.{position-same, position-none}
 use Rattle.facts.specs.declared.Item.{Item}
 use Rattle.facts.specs.declared.FactLine.{FactLine}
 use Rattle.facts.specs.Lines.{AllWithin, start-of, items-of}
@@ -33,21 +34,15 @@ in-one x (g ∷ fs) f gs h = or-right (has x (g .elements)) (in-facts x (fs ++ (
 -- a text among those of some parts is that of the part found
 pub found : (facts query : Text) (v : ℕ) (ws : List ℕ) → T (member (text-of facts query v) (texts-of facts query ws))
     → (index facts query v ws < length ws) × (getD (texts-of facts query ws) (index facts query v ws) [] ≡ text-of facts query v)
-unfolding member some-of index span
-found facts query v [] h = absurd h
-found facts query v (w ∷ ws) h = go (same x (text-of facts query w)) refl h (found facts query v ws)
+unfolding index
+found facts query v ws h = go (decLt (position facts query x ws) (length ws))
   where
     x : Text
     x = text-of facts query v
 
-    i : ℕ
-    i = index facts query v ws
-
-    go : (b : Bool) → same x (text-of facts query w) ≡ b → T (b || member x (texts-of facts query ws))
-        → (T (member x (texts-of facts query ws)) → (i < length ws) × (getD (texts-of facts query ws) i [] ≡ x))
-        → (cond (not b) (suc i) 0 < suc (length ws)) × (getD (texts-of facts query (w ∷ ws)) (cond (not b) (suc i) 0) [] ≡ x)
-    go true e h ih = (omega arith, sym (same-eq x (text-of facts query w) (subst T (sym e) tt)))
-    go false e h ih = let (a, b) = ih h in (omega arith, b)
+    go : Dec (position facts query x ws < length ws) → (position facts query x ws < length ws) × (getD (texts-of facts query ws) (position facts query x ws) [] ≡ x)
+    go (yes l) = (l, sym (same-eq x (getD (texts-of facts query ws) (position facts query x ws) []) (position-same facts query x ws l)))
+    go (no l) = absurd (subst T (position-none facts query x ws (omega arith)) h)
 
 -- the numbers of three items, of which the fact's come first
 pub three : (g : Item → ℕ) (f : FactLine) → f .arity ≤ ARITY → (x y z : ℕ) → x ≡ g (f .first) → y ≡ g (f .second) → z ≡ g (f .third) → take (f .arity) (x ∷ y ∷ z ∷ 0 ∷ []) ≡ map g (items-of f)

@@ -11,7 +11,7 @@ ghost use Rattle.definition.specs.Accept.{Accepted, words-needed};
 ghost use Rattle.definition.specs.Assignment.{loaded};
 ghost use Rattle.definition.specs.Claim.{store-image};
 ghost use Rattle.tuples.specs.Places.{with-tuple};
-ghost use Rattle.facts.specs.Lines.{AllWithin, start-of};
+ghost use Rattle.facts.specs.Lines.{AllWithin};
 ghost use Rattle.facts.specs.Words.{fact-at};
 ghost use Rattle.loading.specs.Given.{element-number, tuple-at, Ready, Loaded, AllLoaded};
 use eval::word_at;
@@ -19,23 +19,12 @@ use facts::FactLine;
 use facts::Item;
 use facts::NextFact;
 use facts::next_fact;
+use facts::value_start;
 use parts::index_of;
 use parts::packed;
 use scratch::clear;
 use tuples::load;
 use tuples::table_words;
-
-// Where an element's value starts in its line: past the quote, if there is one.
-fn value_start(x: Item) -> usize
-    requires { ⌜ x .place ≤ FACT-BYTES ⌝ }
-    ensures { λ r. ⌜ (r ≡ start-of x) × (r ≤ FACT-BYTES + 1) ⌝ }
-{
-    let p = x.place;
-    if x.quoted {
-        return p + 1;
-    }
-    p
-}
 
 // The number of an element of the line that starts at a: its index in the universe, which stands in byte order.
 fn element_number<'a>(facts: &'a [u8], query: &'a [u8], places: &[usize], a: usize, x: Item) -> u8
