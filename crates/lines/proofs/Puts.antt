@@ -1,6 +1,6 @@
 -- Bytes put one after the other.
 use Prim.Native.Nat.{ℕ, _+_, _<_, _≤_, min}
-use mathlib.Core.Path.{_≡_, refl, sym, ap, ap₂, _∙_}
+use mathlib.Core.Path.{_≡_, refl, sym, ap, _∙_}
 use mathlib.Core.Bool.{Bool, true, false, cond}
 use mathlib.Core.List.{List, [], _∷_, _++_}
 use mathlib.Core.Logic.{_⊎_, inl, inr, ⊎-elim}
@@ -8,8 +8,8 @@ use native.Mathlib.Nat.{add-zero, min-eq-left, min-eq-right, min-le-left, min-le
 use native.Mathlib.Omega.{arith}
 use borrow.Author.Tests.{leb-true, leb-false, le-leb, lt-leb}
 use lib.Dec.{leb}
-use lib.ListN.{length, set, drop, length-append, length-drop}
-use lib.Seq.{sets, length-sets, set-out, sets-eq, take-at, drop-at, drop-drop}
+use lib.ListN.{length, set, length-append}
+use lib.Seq.{sets, length-sets, set-out}
 use Rattle.tuples.proofs.Stores.{sets-append, sets-out}
 use Rattle.lines.specs.Put.{Put, Printed}
 
@@ -94,15 +94,6 @@ fits-yes {w} {out} {at} {x} {r} {out₁} p h =
     no : r ≡ length out + 1 → ⊥
     no e = omega arith
 
--- what a machine says of its buffer: the output so far, and the buffer as it was given past that
-written : (out₀ o x : List ℕ) → length o + length x ≤ length out₀
-    → sets (o ++ drop (length o) out₀) (length o) x ≡ (o ++ x) ++ drop (length (o ++ x)) out₀
-written out₀ o x h =
-    sets-eq x (o ++ drop (length o) out₀) (length o) (omega (arith, length-append o (drop (length o) out₀), length-drop (length o) out₀))
-    ∙ ap₂ (λ (a b : List ℕ). a ++ x ++ b) (take-at o (drop (length o) out₀) (length o) refl)
-    (sym (drop-drop (length x) (length o) (o ++ drop (length o) out₀)) ∙ ap (drop (length x)) (drop-at o (drop (length o) out₀) (length o) refl)
-    ∙ drop-drop (length x) (length o) out₀ ∙ ap (λ (k : ℕ). drop k out₀) (sym (length-append o x)))
-
 -- a place past the end
 pub print-past : (out : List ℕ) (at : ℕ) (x : List ℕ) → length out < at → Printed out at x (length out + 1) out
 print-past out at x h =
@@ -127,28 +118,3 @@ print-fits {out} {at} {x} {r} {out₁} {r₂} {out₂} p h q =
           q .bytes ∙ ap (λ (l : List ℕ). sets l at x) (p .bytes)
           ∙ ap (λ (b : Bool). cond b (sets out at x) out) (sym (le-leb (at + length x) (length out) (omega (arith, fits-yes p h))));
     }
-
--- a machine's buffer after a PRINT that fits
-pub machine-fits : (out₀ o : List ℕ) {out : List ℕ} {at : ℕ} {x : List ℕ} {r : ℕ} {out₁ : List ℕ} → out ≡ o ++ drop (length o) out₀ → at ≡ length o → length o ≤ length out₀
-    → Printed out at x r out₁ → r ≤ length out → (r ≡ length (o ++ x)) × (out₁ ≡ (o ++ x) ++ drop (length (o ++ x)) out₀)
-machine-fits out₀ o {out} {at} {x} {r} {out₁} b c f p h = (
-  ⊎-elim (λ l. p .end ∙ min-eq-left l ∙ omega (arith, length-append o x)) (λ l. absurd (no (p .end ∙ min-eq-right (omega arith)))) (le-or-lt (at + length x) (length out + 1)),
-  p .bytes ∙ ap (λ (t : Bool). cond t (sets out at x) out) (le-leb (at + length x) (length out) small)
-      ∙ ap₂ (λ (l : List ℕ) (k : ℕ). sets l k x) b c ∙ written out₀ o x (omega (arith, long)),
-)
-  where
-    no : r ≡ length out + 1 → ⊥
-    no e = omega arith
-
-    long : length out ≡ length out₀
-    long = ap length b ∙ length-append o (drop (length o) out₀) ∙ omega (arith, length-drop (length o) out₀)
-
-    small : at + length x ≤ length out
-    small = ⊎-elim (λ l. omega (arith, p .end, min-eq-left l)) (λ l. absurd (no (p .end ∙ min-eq-right (omega arith)))) (le-or-lt (at + length x) (length out + 1))
-
--- and after one that does not
-pub machine-full : {out : List ℕ} {at : ℕ} {x : List ℕ} {r : ℕ} {out₁ : List ℕ} → Printed out at x r out₁ → length out < r → (length out < at + length x) × (out₁ ≡ out)
-machine-full {out} {at} {x} {r} {out₁} p h = (over, p .bytes ∙ ap (λ (t : Bool). cond t (sets out at x) out) (lt-leb (at + length x) (length out) over))
-  where
-    over : length out < at + length x
-    over = omega (arith, p .end, min-le-left (at + length x) (length out + 1))

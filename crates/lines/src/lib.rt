@@ -1,6 +1,6 @@
 // The line of a tuple put to a buffer, or only counted. A place past the buffer's end counts as the one just past it, so no count overflows.
 ghost use mathlib.Core.Path.{_≡_};
-ghost use mathlib.Core.List.{[], _∷_, _++_};
+ghost use mathlib.Core.List.{[], _∷_};
 ghost use Prim.Native.Nat.{_+_, _-_, _≤_};
 ghost use lib.ListN.{length, getD, take, drop};
 ghost use Rattle.definition.specs.Text.{gather};
