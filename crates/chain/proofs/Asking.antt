@@ -11,7 +11,7 @@ use lib.Seq.{length-take-le}
 use Rattle.definition.specs.Text.{Text, some-of}
 use Rattle.definition.specs.Limits.{FACT-BYTES, CHAIN-BYTES, document-01}
 use Rattle.definition.specs.Answer.{Answer, ok, refused, _>>_, refuse-if}
-use Rattle.definition.specs.Facts.{Facts, arities, read-facts, Ascending, Ascending}
+use Rattle.definition.specs.Facts.{Facts, arities, read-facts, Ascending}
 use Rattle.definition.specs.Calls.{Asked, ChainMeets, numbers-of, chain-asked, chain-meets}
 use Rattle.definition.specs.declared.Chained.{Chained}
 use Rattle.definition.specs.declared.Chained.the-variants.{Refused as not-chained}

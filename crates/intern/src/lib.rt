@@ -1,7 +1,7 @@
 // Names as numbers: bytes are compared here, once; the passes over names compare numbers.
 ghost use mathlib.Core.Path.{_≡_};
 ghost use Prim.Native.Nat.{_+_, _-_, _/_, _≤_, _<_};
-ghost use lib.ListN.{length, getD};
+ghost use lib.ListN.{length};
 ghost use Rattle.intern.specs.Entries.{start-of, text-at};
 ghost use Rattle.intern.specs.Numbers.{name-of, number-of, may-be-first, Numbered};
 

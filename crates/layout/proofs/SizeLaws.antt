@@ -11,12 +11,10 @@ use lib.Seq.{take-suc, drop-cons, getD-set-same, getD-set-other, take-all}
 use Rattle.definition.specs.Text.{Text}
 use Rattle.definition.specs.Limits.{CLOSURES}
 use Rattle.definition.specs.Tables.{table-words}
-use Rattle.definition.specs.Facts.{Relation}
 use Rattle.definition.specs.Accept.{Accepted, elements, relation-words, largest-words, scratch-words, words-needed}
 use Rattle.tuples.proofs.Turns.{words-le}
 use Rattle.parts.specs.Packed.{tag-of}
 use Rattle.facts.specs.Words.{relation-of}
-use Rattle.code.specs.Layout.{Laid}
 use Rattle.layout.specs.Sizes.{all-words, most-words, TablesAt, ClosuresAt, LaidOut}
 
 -- one table is small

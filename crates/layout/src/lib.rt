@@ -1,6 +1,6 @@
 // Where the tables stand in the store: "Relations stand in the store of 64-bit words in order of first appearance".
 ghost use mathlib.Core.Path.{_≡_};
-ghost use mathlib.Core.List.{List, map};
+ghost use mathlib.Core.List.{map};
 ghost use Prim.Native.Nat.{ℕ, _+_, _*_, _≤_, _<_};
 ghost use lib.ListN.{length, getD};
 ghost use Rattle.definition.specs.Text.{Text};

@@ -1,15 +1,12 @@
 use Prim.Native.Nat.{_≤_, _-_}
-use mathlib.Core.Path.{_≡_, refl, sym, ap, _∙_}
+use mathlib.Core.Path.{_≡_, _∙_}
 use native.Mathlib.Omega.{arith}
 use borrow.Author.Needs.{needs}
 use denote.Ref.{now}
-use lib.ListN.{length, length-set}
+use lib.ListN.{length}
 use Rattle.layout.proofs.SizeLaws.{Seeking, seeking-start, seeking-more, seeking-same}
 use Rattle.layout.proofs.largest.Statement.{statement}
 use Rattle.layout.proofs.largest.Tie as tie
-use Rattle.layout.proofs.largest.Reads as reads
-use Rattle.layout.proofs.largest.Lts as lts
-use Rattle.tuples.proofs.table_words.Reads as table-words-reads
 
 abbrev Inv-loop : tie.InvT-loop
 Inv-loop relations u most₀ i₀ most i = (i ≤ length relations) × Seeking u relations most i
@@ -17,43 +14,33 @@ Inv-loop relations u most₀ i₀ most i = (i ≤ length relations) × Seeking u
 abbrev μ-loop : tie.MeasureT-loop
 μ-loop relations u most₀ i₀ most i = i
 
--- src/lib.rt:52:5
 loop-holds : tie.Need-loop-holds Inv-loop μ-loop
 loop-holds c = (omega arith, seeking-start (c .before .args .u) (now (c .before .args .relations)))
 
--- src/lib.rt:53:9
 sub-i : tie.Need-sub-i Inv-loop μ-loop
 sub-i c = search needs
 
--- src/lib.rt:54:32
 mul-table-words : tie.Need-mul-table-words Inv-loop μ-loop
 mul-table-words c = search needs
 
--- src/lib.rt:54:32
 shared-slice-read-table-words : tie.Need-shared-slice-read-table-words Inv-loop μ-loop
 shared-slice-read-table-words c = search needs
 
--- src/lib.rt:54:13
 table-words-requires : tie.Need-table-words-requires Inv-loop μ-loop
 table-words-requires c κs = search needs
 
--- src/lib.rt:52:5
 loop-less : tie.Need-loop-less Inv-loop μ-loop
 loop-less c = search needs
 
--- src/lib.rt:52:5
 loop-again : tie.Need-loop-again Inv-loop μ-loop
 loop-again c = let s = c .before .before .before .before .before .before in let l = c .before .before .before .before .loop in (omega arith, rw (c .before .table-words .ensures) (seeking-more (s .args .u) (now (s .args .relations)) (l .most) (l .i) (l .inv .1) (l .i - 1) (omega arith) (omega arith) (rw (← c .before .table-words .ensures) (c .if1 .taken)) (s .pre .1)))
 
--- src/lib.rt:52:5
 loop-less-2 : tie.Need-loop-less-2 Inv-loop μ-loop
 loop-less-2 c = search needs
 
--- src/lib.rt:52:5
 loop-again-2 : tie.Need-loop-again-2 Inv-loop μ-loop
 loop-again-2 c = let s = c .before .before .before .before .before .before in let l = c .before .before .before .before .loop in (omega arith, seeking-same (s .args .u) (now (s .args .relations)) (l .most) (l .i) (l .inv .1) (l .i - 1) (omega arith) (omega arith) (rw (← c .before .table-words .ensures) (c .if1 .left)))
 
--- src/lib.rt:45:1
 returns : tie.Need-returns Inv-loop μ-loop
 returns c = let l = c .before .loop in let e : l .i ≡ 0 = omega arith in (l .inv .1 .is ∙ rw e, l .inv .1 .small)
 

@@ -1,39 +1,27 @@
-use Prim.Native.Nat.{_≤_, _-_}
-use mathlib.Core.Path.{_≡_, refl, sym, ap, _∙_}
+use Prim.Native.Nat.{_-_}
+use mathlib.Core.Path.{refl, _∙_}
 use native.Mathlib.Omega.{arith}
 use borrow.Author.Needs.{needs}
 use denote.Ref.{now}
-use lib.ListN.{length, getD, length-set}
 use Rattle.layout.proofs.SizeLaws.{laid-out}
 use Rattle.layout.proofs.lay.Statement.{statement}
 use Rattle.layout.proofs.lay.Tie as tie
-use Rattle.layout.proofs.lay.Reads as reads
-use Rattle.layout.proofs.lay.Lts as lts
-use Rattle.layout.proofs.largest.Reads as largest-reads
-use Rattle.layout.proofs.lay_closures.Reads as lay-closures-reads
-use Rattle.layout.proofs.lay_tables.Reads as lay-tables-reads
 
--- src/lib.rt:76:9
 lay-tables-requires : tie.Need-lay-tables-requires
 lay-tables-requires c κs = search needs
 
--- src/lib.rt:77:9
 lay-closures-requires : tie.Need-lay-closures-requires
 lay-closures-requires c κs = search needs
 
--- src/lib.rt:80:26
 largest-requires : tie.Need-largest-requires
 largest-requires c κs = search needs
 
--- src/lib.rt:80:16
 add-t11 : tie.Need-add-t11
 add-t11 c = search needs
 
--- src/lib.rt:72:1
 same-length : tie.Need-same-length
 same-length c = search needs
 
--- src/lib.rt:72:1
 returns : tie.Need-returns
 returns c = let s = c .before .before .before .before .before .before .before .before .before .before .before in let t = c .before .before .before .before .before .before .before .lay-tables in let k = c .before .before .before .lay-closures in laid-out (s .args .u) (now (s .args .relations)) _ (t .result) (k .result) _ (c .largest .result) (t .ensures .0) (λ i l. k .ensures .1 .1 .1 i (omega (arith, s .pre)) ∙ t .ensures .1 .0 i l) (k .ensures .0) (k .ensures .1 .1 .0) (c .largest .ensures .0) refl
 

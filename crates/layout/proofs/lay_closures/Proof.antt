@@ -1,14 +1,11 @@
 use Prim.Native.Nat.{_≤_, _-_}
-use mathlib.Core.Path.{_≡_, refl, sym, ap, _∙_}
+use mathlib.Core.Path.{_≡_, refl, _∙_}
 use native.Mathlib.Omega.{arith}
 use borrow.Author.Needs.{needs}
-use denote.Ref.{now}
-use lib.ListN.{length, getD, length-set}
+use lib.ListN.{length, length-set}
 use Rattle.layout.proofs.SizeLaws.{Closing, closing-start, closing-next}
 use Rattle.layout.proofs.lay_closures.Statement.{statement}
 use Rattle.layout.proofs.lay_closures.Tie as tie
-use Rattle.layout.proofs.lay_closures.Reads as reads
-use Rattle.layout.proofs.lay_closures.Lts as lts
 
 abbrev Inv-loop : tie.InvT-loop
 Inv-loop from u firsts₀ next₀ c₀ firsts next c = (length firsts ≡ length firsts₀) × (c ≤ 16) × Closing u from firsts₀ firsts next c
@@ -16,43 +13,33 @@ Inv-loop from u firsts₀ next₀ c₀ firsts next c = (length firsts ≡ length
 abbrev μ-loop : tie.MeasureT-loop
 μ-loop from u firsts₀ next₀ c₀ firsts next c = 16 - c
 
--- src/lib.rt:39:5
 loop-holds : tie.Need-loop-holds Inv-loop μ-loop
 loop-holds c = (refl, omega arith, closing-start (c .args .u) (c .args .from) _)
 
--- src/lib.rt:40:16
 add-firsts : tie.Need-add-firsts Inv-loop μ-loop
 add-firsts c = search needs
 
--- src/lib.rt:40:9
 mul-firsts : tie.Need-mul-firsts Inv-loop μ-loop
 mul-firsts c = omega (arith, c .before .loop .inv .0, c .before .before .pre)
 
--- src/lib.rt:40:9
 slice-write-firsts : tie.Need-slice-write-firsts Inv-loop μ-loop
 slice-write-firsts c = omega (arith, c .before .loop .inv .0, c .before .before .pre)
 
--- src/lib.rt:41:9
 add-next : tie.Need-add-next Inv-loop μ-loop
 add-next c = omega (arith, c .before .loop .inv .2 .small)
 
--- src/lib.rt:42:9
 add-c : tie.Need-add-c Inv-loop μ-loop
 add-c c = search needs
 
--- src/lib.rt:39:5
 loop-less : tie.Need-loop-less Inv-loop μ-loop
 loop-less c = search needs
 
--- src/lib.rt:39:5
 loop-again : tie.Need-loop-again Inv-loop μ-loop
 loop-again c = let s = c .before .before in let l = c .before .loop in (simp length-set (l .inv .0), omega arith, closing-next (s .args .u) (s .args .from) _ (l .firsts) (l .next) (l .c) (l .inv .2) (s .pre .1) (omega (arith, l .inv .0, s .pre)))
 
--- src/lib.rt:30:1
 same-length : tie.Need-same-length Inv-loop μ-loop
 same-length c = search needs
 
--- src/lib.rt:30:1
 returns : tie.Need-returns Inv-loop μ-loop
 returns c = let l = c .before .loop in let e : l .c ≡ 16 = omega arith in (l .inv .2 .next-is ∙ rw e, (omega (arith, l .inv .2 .small), ((λ j k. l .inv .2 .at j (omega arith)), l .inv .2 .before)))
 

@@ -1,5 +1,5 @@
 use Prim.Native.Nat.{_≤_, _-_}
-use mathlib.Core.Path.{_≡_, refl, sym, ap, _∙_}
+use mathlib.Core.Path.{_≡_, refl}
 use native.Mathlib.Omega.{arith}
 use borrow.Author.Needs.{needs}
 use denote.Ref.{now}
@@ -7,9 +7,6 @@ use lib.ListN.{length, getD, length-set}
 use Rattle.layout.proofs.SizeLaws.{few-words, Laying, laying-start, laying-next, laying-end}
 use Rattle.layout.proofs.lay_tables.Statement.{statement}
 use Rattle.layout.proofs.lay_tables.Tie as tie
-use Rattle.layout.proofs.lay_tables.Reads as reads
-use Rattle.layout.proofs.lay_tables.Lts as lts
-use Rattle.tuples.proofs.table_words.Reads as table-words-reads
 
 abbrev Inv-loop : tie.InvT-loop
 Inv-loop relations u firsts₀ next₀ i₀ firsts next i = (length firsts ≡ length firsts₀) × (i ≤ length relations) × Laying u relations firsts next i
@@ -17,51 +14,39 @@ Inv-loop relations u firsts₀ next₀ i₀ firsts next i = (length firsts ≡ l
 abbrev μ-loop : tie.MeasureT-loop
 μ-loop relations u firsts₀ next₀ i₀ firsts next i = length relations - i
 
--- src/lib.rt:21:5
 loop-holds : tie.Need-loop-holds Inv-loop μ-loop
 loop-holds c = (refl, omega arith, laying-start (c .before .before .args .u) (now (c .before .before .args .relations)) _)
 
--- src/lib.rt:22:9
 mul-firsts : tie.Need-mul-firsts Inv-loop μ-loop
 mul-firsts c = omega (arith, c .before .loop .inv .0, c .before .before .before .before .pre)
 
--- src/lib.rt:22:9
 slice-write-firsts : tie.Need-slice-write-firsts Inv-loop μ-loop
 slice-write-firsts c = omega (arith, c .before .loop .inv .0, c .before .before .before .before .pre)
 
--- src/lib.rt:23:32
 mul-table-words : tie.Need-mul-table-words Inv-loop μ-loop
 mul-table-words c = search needs
 
--- src/lib.rt:23:32
 shared-slice-read-table-words : tie.Need-shared-slice-read-table-words Inv-loop μ-loop
 shared-slice-read-table-words c = search needs
 
--- src/lib.rt:23:17
 table-words-requires : tie.Need-table-words-requires Inv-loop μ-loop
 table-words-requires c κs = omega arith
 
--- src/lib.rt:23:9
 add-next : tie.Need-add-next Inv-loop μ-loop
 add-next c = let s = c .before .before .before .before .before .before in let l = c .before .before .before .loop in omega (arith, l .inv .2 .small, c .table-words .ensures, few-words (s .args .u) (getD (now (s .args .relations)) (l .i) 0) (s .pre .1))
 
--- src/lib.rt:24:9
 add-i : tie.Need-add-i Inv-loop μ-loop
 add-i c = search needs
 
--- src/lib.rt:21:5
 loop-less : tie.Need-loop-less Inv-loop μ-loop
 loop-less c = search needs
 
--- src/lib.rt:21:5
 loop-again : tie.Need-loop-again Inv-loop μ-loop
 loop-again c = let s = c .before .before .before .before .before .before in let l = c .before .before .before .loop in (simp length-set (l .inv .0), omega arith, rw (c .table-words .ensures) (laying-next (s .args .u) (now (s .args .relations)) (l .firsts) (l .next) (l .i) (l .inv .2) (s .pre .1) (c .before .before .loop-test .taken) (omega (arith, l .inv .0, s .pre))))
 
--- src/lib.rt:13:1
 same-length : tie.Need-same-length Inv-loop μ-loop
 same-length c = search needs
 
--- src/lib.rt:13:1
 returns : tie.Need-returns Inv-loop μ-loop
 returns c = let s = c .before .before .before .before in let l = c .before .loop in let e = laying-end (s .args .u) (now (s .args .relations)) (l .firsts) (l .next) (l .i) (l .inv .2) (c .loop-test .left) (l .inv .1) in (e .0, (e .1, omega (arith, l .inv .2 .small)))
 

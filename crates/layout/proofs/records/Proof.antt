@@ -1,17 +1,12 @@
 use Prim.Native.Nat.{_≤_, _-_}
-use mathlib.Core.Path.{_≡_, refl, sym, ap, _∙_}
 use native.Mathlib.Omega.{arith}
 use borrow.Author.Needs.{needs}
 use denote.Ref.{now}
-use lib.ListN.{length, getD, length-set}
+use lib.ListN.{length, getD}
 use Rattle.layout.proofs.SizeLaws.{few-words}
 use Rattle.layout.proofs.RecordLaws.{Recording, recording-start, recording-next, recording-end}
 use Rattle.layout.proofs.records.Statement.{statement}
 use Rattle.layout.proofs.records.Tie as tie
-use Rattle.layout.proofs.records.Reads as reads
-use Rattle.layout.proofs.records.Lts as lts
-use Rattle.layout.proofs.record_of.Reads as record-of-reads
-use Rattle.tuples.proofs.table_words.Reads as table-words-reads
 
 abbrev Inv-loop : tie.InvT-loop
 Inv-loop facts query relations u rs₀ next₀ i₀ rs next i = (i ≤ length relations) × Recording facts query u relations rs next i
@@ -19,51 +14,39 @@ Inv-loop facts query relations u rs₀ next₀ i₀ rs next i = (i ≤ length re
 abbrev μ-loop : tie.MeasureT-loop
 μ-loop facts query relations u rs₀ next₀ i₀ rs next i = length relations - i
 
--- src/lib.rt:121:5
 loop-holds : tie.Need-loop-holds Inv-loop μ-loop
 loop-holds c = (omega arith, recording-start (now (c .before .before .before .args .facts)) (now (c .before .before .before .args .query)) (c .before .before .before .args .u) (now (c .before .before .before .args .relations)))
 
--- src/lib.rt:122:17
 mul-w : tie.Need-mul-w Inv-loop μ-loop
 mul-w c = search needs
 
--- src/lib.rt:122:17
 shared-slice-read-w : tie.Need-shared-slice-read-w Inv-loop μ-loop
 shared-slice-read-w c = search needs
 
--- src/lib.rt:123:17
 record-of-requires : tie.Need-record-of-requires Inv-loop μ-loop
 record-of-requires c κs = search needs
 
--- src/lib.rt:123:9
 mul-rs : tie.Need-mul-rs Inv-loop μ-loop
 mul-rs c = omega (arith, c .before .before .before .before .before .before .before .pre, c .before .before .loop-test .taken)
 
--- src/lib.rt:123:9
 array-set-from-rs : tie.Need-array-set-from-rs Inv-loop μ-loop
 array-set-from-rs c = omega (arith, c .before .before .before .before .before .before .before .pre, c .before .before .loop-test .taken)
 
--- src/lib.rt:124:17
 table-words-requires : tie.Need-table-words-requires Inv-loop μ-loop
 table-words-requires c κs = omega arith
 
--- src/lib.rt:124:9
 add-next : tie.Need-add-next Inv-loop μ-loop
 add-next c = let s = c .before .before .before .before .before .before .before .before in let l = c .before .before .before .before .loop in omega (arith, l .inv .1 .small, c .table-words .ensures, few-words (s .args .u) (getD (now (s .args .relations)) (l .i) 0) (s .pre .1))
 
--- src/lib.rt:125:9
 add-i : tie.Need-add-i Inv-loop μ-loop
 add-i c = search needs
 
--- src/lib.rt:121:5
 loop-less : tie.Need-loop-less Inv-loop μ-loop
 loop-less c = search needs
 
--- src/lib.rt:121:5
 loop-again : tie.Need-loop-again Inv-loop μ-loop
 loop-again c = let s = c .before .before .before .before .before .before .before .before in let l = c .before .before .before .before .loop in (omega arith, rw (c .table-words .ensures, c .before .record-of .ensures) (recording-next (now (s .args .facts)) (now (s .args .query)) (s .args .u) (now (s .args .relations)) (l .rs) (l .next) (l .i) (l .inv .1) (s .pre .1) (c .before .before .before .loop-test .taken) (omega (arith, s .pre, c .before .before .before .loop-test .taken))))
 
--- src/lib.rt:102:1
 returns : tie.Need-returns Inv-loop μ-loop
 returns c = let s = c .before .before .before .before .before in let l = c .before .loop in recording-end (now (s .args .facts)) (now (s .args .query)) (s .args .u) (now (s .args .relations)) (l .rs) (l .next) (l .i) (l .inv .1) (c .loop-test .left) (l .inv .0)
 

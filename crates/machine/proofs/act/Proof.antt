@@ -10,10 +10,6 @@ use Rattle.machine.proofs.Acting.{act-step, act-full, act-print}
 use borrow.Author.Needs.{needs}
 use Rattle.machine.proofs.act.Statement.{statement}
 use Rattle.machine.proofs.act.Tie as tie
-use Rattle.machine.proofs.act.Reads as reads
-use Rattle.machine.proofs.act.Lts as lts
-use Rattle.actions.proofs.print_at.Reads as print-at-reads
-use Rattle.machine.proofs.step.Reads as step-reads
 
 abbrev all : List ℕ → List ℕ → ℕ → ℕ → Texts → Actions
 all words firsts u scr T = actions words firsts u scr (print-by words firsts u T)

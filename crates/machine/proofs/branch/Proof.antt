@@ -2,9 +2,6 @@ use Rattle.machine.proofs.Acting.{by-yes, by-no}
 use borrow.Author.Needs.{needs}
 use Rattle.machine.proofs.branch.Statement.{statement}
 use Rattle.machine.proofs.branch.Tie as tie
-use Rattle.machine.proofs.branch.Reads as reads
-use Rattle.machine.proofs.branch.Lts as lts
-use Rattle.actions.proofs.test_at.Reads as test-at-reads
 
 test-at-requires : tie.Need-test-at-requires
 test-at-requires c κs = search needs

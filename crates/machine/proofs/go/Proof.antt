@@ -1,5 +1,5 @@
 -- The machine stands in the run that it stood in at the start.
-use Prim.Native.Nat.{ℕ, _-_, _<_}
+use Prim.Native.Nat.{ℕ, _-_}
 use mathlib.Core.Path.{_≡_, refl}
 use mathlib.Core.List.{List}
 use native.Mathlib.Omega.{arith}
@@ -13,11 +13,6 @@ use Rattle.machine.specs.Bound.{actions}
 use Rattle.machine.proofs.Goings.{Going, going-start, going-settled, goes-done, goes-spent, goes-full, going-on, answers}
 use Rattle.machine.proofs.go.Statement.{statement}
 use Rattle.machine.proofs.go.Tie as tie
-use Rattle.machine.proofs.go.Reads as reads
-use Rattle.machine.proofs.go.Lts as lts
-use Rattle.machine.proofs.act.Reads as act-reads
-use Rattle.machine.proofs.settle.Reads as settle-reads
-use Rattle.machine.proofs.stop.Reads as stop-reads
 
 abbrev all : List ℕ → List ℕ → ℕ → ℕ → Texts → Actions
 all words firsts u scr T = actions words firsts u scr (print-by words firsts u T)

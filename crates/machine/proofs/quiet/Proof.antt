@@ -10,9 +10,6 @@ use Rattle.machine.proofs.Decoding.{is-assign, is-print, is-test, is-ag
 use Rattle.machine.proofs.Quiets.{stays-at, quiet-pass, quiet-jump, quiet-stay, quiet-leave}
 use Rattle.machine.proofs.quiet.Statement.{statement}
 use Rattle.machine.proofs.quiet.Tie as tie
-use Rattle.machine.proofs.quiet.Reads as reads
-use Rattle.machine.proofs.quiet.Lts as lts
-use Rattle.machine.proofs.seek.Reads as seek-reads
 
 -- what the search finds at a NEXT
 module _ (c : tie.After-seek) where

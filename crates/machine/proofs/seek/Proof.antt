@@ -1,5 +1,5 @@
 -- The members from the start on are those from a on.
-use Prim.Native.Nat.{ℕ, _-_}
+use Prim.Native.Nat.{_-_}
 use mathlib.Core.Path.{_≡_, refl, sym, _∙_}
 use native.Mathlib.Omega.{arith}
 use borrow.Author.Needs.{needs}
@@ -7,9 +7,6 @@ use Rattle.machine.specs.Actions.{members}
 use Rattle.machine.proofs.Members.{search-hit, search-on, search-none}
 use Rattle.machine.proofs.seek.Statement.{statement}
 use Rattle.machine.proofs.seek.Tie as tie
-use Rattle.machine.proofs.seek.Reads as reads
-use Rattle.machine.proofs.seek.Lts as lts
-use Rattle.bits.proofs.test_bit.Reads as test-bit-reads
 
 abbrev Inv-loop : tie.InvT-loop
 Inv-loop s from u a₀ a = members s from (u - from) ≡ members s a (u - a)

@@ -1,15 +1,11 @@
 -- The moves so far lead to the place.
 use Prim.Native.Nat.{_-_}
 use native.Mathlib.Omega.{arith}
-use borrow.Author.Needs.{needs}
 use lib.ListN.{length}
 use Rattle.machine.specs.Turns.{Moves, here}
 use Rattle.machine.proofs.Quiets.{settled-end, settled-here, settled-on}
 use Rattle.machine.proofs.settle.Statement.{statement}
 use Rattle.machine.proofs.settle.Tie as tie
-use Rattle.machine.proofs.settle.Reads as reads
-use Rattle.machine.proofs.settle.Lts as lts
-use Rattle.machine.proofs.quiet.Reads as quiet-reads
 
 abbrev Inv-loop : tie.InvT-loop
 Inv-loop words sets cursors u pc at₀ at = Moves u words sets cursors pc at

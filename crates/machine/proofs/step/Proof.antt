@@ -5,13 +5,6 @@ use Rattle.machine.proofs.Acting.{by-assign, by-test, by-again, by-rang
 use borrow.Author.Needs.{needs}
 use Rattle.machine.proofs.step.Statement.{statement}
 use Rattle.machine.proofs.step.Tie as tie
-use Rattle.machine.proofs.step.Reads as reads
-use Rattle.machine.proofs.step.Lts as lts
-use Rattle.actions.proofs.assign_at.Reads as assign-at-reads
-use Rattle.actions.proofs.range_at.Reads as range-at-reads
-use Rattle.machine.proofs.before.Reads as before-reads
-use Rattle.machine.proofs.branch.Reads as branch-reads
-use Rattle.machine.proofs.take.Reads as take-reads
 
 mul-w : tie.Need-mul-w
 mul-w c = search needs

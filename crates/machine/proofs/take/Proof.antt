@@ -6,9 +6,6 @@ use Rattle.machine.specs.Turns.{next-at, left-at}
 use borrow.Author.Needs.{needs}
 use Rattle.machine.proofs.take.Statement.{statement}
 use Rattle.machine.proofs.take.Tie as tie
-use Rattle.machine.proofs.take.Reads as reads
-use Rattle.machine.proofs.take.Lts as lts
-use Rattle.machine.proofs.seek.Reads as seek-reads
 
 mul-seek : tie.Need-mul-seek
 mul-seek c = search needs
