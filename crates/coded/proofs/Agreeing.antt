@@ -12,7 +12,7 @@ use Rattle.definition.specs.Token.{Token}
 use Rattle.definition.specs.Names.{attribute, relation, is-variable, variables}
 use Rattle.definition.specs.Accept.{elements}
 use Rattle.definition.specs.Meaning.{numbers}
-use Rattle.definition.proofs.BoolLaws.{is-true}
+use Rattle.definition.proofs.BoolLaws.{is-true, contradiction}
 use Rattle.definition.proofs.RelationLaws.{place-of}
 use Rattle.definition.specs.Facts.{Ascending}
 use Rattle.words.specs.Fields.{word, ATTRIBUTE}
@@ -37,7 +37,7 @@ use Rattle.lowering.specs.Lowering.{at, lower-at, Filled}
 use Rattle.lowering.specs.Agreement.{Element, found, missing, Agrees, Spelled}
 use Rattle.lowering.proofs.FreeWords.{free-at}
 use Rattle.coding.specs.Pass.{token-part, string-code, name-code, code-of, Made}
-use Rattle.coded.proofs.Bytes.{never, byte-of, byte-scope, byte-name, name-range, scope-range}
+use Rattle.coded.proofs.Bytes.{byte-of, byte-scope, byte-name, name-range, scope-range}
 use Rattle.coded.proofs.Kept.{named-by, by-true, kept, kept-length, was-name, was-string}
 use Rattle.coded.proofs.Codes.{attribute-number, loop-number, relation-number, place-known, part-is, index-found, index-none}
 use Rattle.coded.proofs.Given.{Case, depths-before, Place}
@@ -194,14 +194,14 @@ module _ (C : Case) where
     apart x e = go (member x names) refl
       where
         go : (b : Bool) → member x names ≡ b → b ≡ false
-        go true m = never (C .w .variables x) e (no-variable x m)
+        go true m = contradiction (C .w .variables x) e (no-variable x m)
         go false m = refl
 
     pub outside : (x : Text) → member x names ≡ true → member x scope ≡ false
     outside x m = go (member x scope) refl
       where
         go : (b : Bool) → member x scope ≡ b → b ≡ false
-        go true e = never (C .w .variables x) (P .loops x e) (no-variable x m)
+        go true e = contradiction (C .w .variables x) (P .loops x e) (no-variable x m)
         go false e = refl
 
     byte-digit : (x : Text) → member x names ≡ true → β x - 63 ≡ slot names x

@@ -5,35 +5,19 @@ use mathlib.Core.Bool.{Bool, true, false, cond, _||_}
 use mathlib.Core.List.{List, [], _∷_}
 use native.Mathlib.Omega.{arith}
 use borrow.Author.Tests.{lt-ltb, le-ltb, eq-eqb}
-use lib.Dec.{T}
 use lib.ListN.{length}
 use Rattle.definition.specs.Text.{Text, same, member, some-of}
-use Rattle.definition.proofs.BoolLaws.{is-true}
-use Rattle.definition.proofs.MeaningLaws.{same-eq, same-refl}
+use Rattle.definition.proofs.BoolLaws.{is-true, contradiction}
+use Rattle.definition.proofs.MeaningLaws.{same-equal, same-sym}
 use Rattle.eval.specs.Nodes.{slot, variable, operand}
 use Rattle.free.proofs.Slotted as Slotted
 use Rattle.free.proofs.Slotted.{pos-le, pos-some, pos-same}
 use Rattle.code.specs.Statements.{depth-in, Named}
 
-pub never : {A : Type 0} (b : Bool) → b ≡ true → b ≡ false → A
-never b e f = absurd (let z : _≡_ {A = ℕ} 0 1 = cc in omega arith)
-
-pub of-true : (b : Bool) → b ≡ true → T b
-of-true b e = rw e tt
-
-pub same-sym : (x y : Text) → same x y ≡ same y x
-same-sym x y = go (same x y) (same y x) refl refl
-  where
-    go : (b c : Bool) → same x y ≡ b → same y x ≡ c → b ≡ c
-    go true true e f = refl
-    go false false e f = refl
-    go true false e f = never (same y x) (rw (same-eq x y (of-true (same x y) e)) (is-true (same y y) (same-refl y))) f
-    go false true e f = never (same x y) (rw (same-eq y x (of-true (same y x) f)) (is-true (same x x) (same-refl x))) e
-
 -- a loop variable's FOR stands inside fewer FORs than are open
 pub depth-less : (x : Text) (scope : List Text) → member x scope ≡ true → depth-in x scope < length scope
 unfolding depth-in member some-of
-depth-less x [] h = never false h refl
+depth-less x [] h = contradiction false h refl
 depth-less x (y ∷ ys) h = rw (same-sym y x) (go (same x y) h (depth-less x ys))
   where
     go : (b : Bool) → b || member x ys ≡ true → (member x ys ≡ true → depth-in x ys < length ys) → cond b (length ys) (depth-in x ys) < suc (length ys)
@@ -78,7 +62,7 @@ module _ (scope names : List Text) where
     same-slot x y i e f =
         let (a, b) = slotted x i e in
         let (c, d) = slotted y i f in
-        same-eq x y (of-true (same x y) (pos-same x y names 0 a ∙ eq-eqb (Slotted.slot names x) (Slotted.slot names y) (b ∙ sym d)))
+        same-equal x y (pos-same x y names 0 a ∙ eq-eqb (Slotted.slot names x) (Slotted.slot names y) (b ∙ sym d))
 
     pub named : Named scope byte-of
     named = record {

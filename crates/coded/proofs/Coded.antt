@@ -24,6 +24,7 @@ use Rattle.definition.proofs.ArityLaws.{small-arities}
 use Rattle.definition.proofs.NestingLaws.{nested}
 use Rattle.definition.proofs.FormLaws.{formed}
 use Rattle.definition.proofs.RowLaws.{rows-ok}
+use Rattle.definition.proofs.BoolLaws.{contradiction}
 use Rattle.words.specs.Raw.{size-program, flat-program}
 use Rattle.words.specs.Standing.{Has}
 use Rattle.words.proofs.Places.{has-all}
@@ -37,7 +38,6 @@ use Rattle.kinds.specs.Resolved.{Parsed, Stands}
 use Rattle.actions.specs.Parts.{start}
 use Rattle.code.specs.Program.{Code}
 use Rattle.coding.specs.Pass.{Depths, depths-at, Passed}
-use Rattle.coded.proofs.Bytes.{never}
 use Rattle.coded.proofs.Given.{Case}
 use Rattle.coded.proofs.Standing.{Begun}
 use Rattle.coded.proofs.Programs.{Fine}
@@ -156,11 +156,11 @@ module _ (facts query : Text) (w : Accepted) (tokens ids known relations words p
   begun = record {
     start-words = refl;
     start-low = refl;
-    depths = record { deep = L .none-open; room = refl; held = λ t o m. never (member (t .text) []) m (no-member (t .text)) };
+    depths = record { deep = L .none-open; room = refl; held = λ t o m. contradiction (member (t .text) []) m (no-member (t .text)) };
   }
 
   pub coded : Code w query low [] (w .program) 0 (size-program (w .program))
   coded =
       let x : Has words 0 (flat-program p 0) = rw (← L .parsed .flat) (has-all words) in
-      let D = program C p [] 0 (λ y m. never (member y []) m (no-member y)) (omega arith) begun fine x (omega (arith, words-length)) in
+      let D = program C p [] 0 (λ y m. contradiction (member y []) m (no-member y)) (omega arith) begun fine x (omega (arith, words-length)) in
       subst (Code w query low [] p 0) (zero-add (size-program p)) (D .code)

@@ -16,6 +16,7 @@ use Rattle.definition.specs.Names.{Known, nothing, attribute, variable, open-va
 use Rattle.definition.proofs.RelationLaws.{place-of}
 use Rattle.definition.proofs.NameLaws.{as-relation, Numbered}
 use Rattle.definition.proofs.UniverseLaws.{number-of, no-number}
+use Rattle.definition.proofs.BoolLaws.{contradiction}
 use Rattle.kinds.specs.Walk.{known-of}
 use Rattle.kinds.proofs.Meaning.{known-relation}
 use Rattle.parts.specs.Packed.{text-of}
@@ -25,7 +26,6 @@ use Rattle.parts.proofs.HeldLaws.{length-texts}
 use Rattle.intern.specs.Entries.{start-of, text-at}
 use Rattle.slots.specs.Slots.{of-loop}
 use Rattle.coding.specs.Pass.{token-part}
-use Rattle.coded.proofs.Bytes.{never, of-true}
 
 -- an attribute, a loop variable, a relation
 pub attribute-number : (a : ℕ) → known-of a ≡ attribute → a ≡ 1
@@ -40,13 +40,13 @@ attribute-number (suc (suc (suc (suc a)))) e =
 
 pub loop-number : (a : ℕ) → is-variable (known-of a) ≡ true → (of-loop a ≡ true) × (ltb 3 a ≡ false)
 unfolding known-of of-loop
-loop-number zero e = never false e refl
-loop-number (suc zero) e = never false e refl
+loop-number zero e = contradiction false e refl
+loop-number (suc zero) e = contradiction false e refl
 loop-number (suc (suc zero)) e = (refl, refl)
 loop-number (suc (suc (suc zero))) e = (refl, refl)
 loop-number (suc (suc (suc (suc a)))) e =
     let f = known-relation (suc (suc (suc (suc a)))) (omega arith) in
-    never (is-variable (known-of (suc (suc (suc (suc a)))))) e (ap is-variable f)
+    contradiction (is-variable (known-of (suc (suc (suc (suc a)))))) e (ap is-variable f)
 
 pub relation-number : (a i n : ℕ) → known-of a ≡ relation i n → (ltb 3 a ≡ true) × ((a - 4) / 4 ≡ i)
 unfolding known-of
@@ -114,7 +114,7 @@ module _ (facts query : Text) (v : ℕ) where
     where
       go : (b : Bool) → same text (text-of facts query u) ≡ b → cond (not b) (suc (later ws)) 0 < suc (length ws) → (later ws < length ws → T (same text (getD (texts ws) (later ws) [])))
           → T (same text (getD (texts (u ∷ ws)) (cond (not b) (suc (later ws)) 0) []))
-      go true e h more = of-true _ e
+      go true e h more = rw e tt
       go false e h more = more (omega arith)
 
   none-at : (ws : List ℕ) → length ws ≤ index facts query v ws → member text (texts ws) ≡ false

@@ -10,14 +10,14 @@ use lib.ListN.{length, getD, set, length-set}
 use lib.Seq.{getD-set-same, getD-set-other}
 use Rattle.definition.specs.Text.{Text, same, member, some-of}
 use Rattle.definition.specs.Token.{Token}
-use Rattle.definition.proofs.MeaningLaws.{same-eq}
+use Rattle.definition.proofs.MeaningLaws.{same-equal, same-sym}
+use Rattle.definition.proofs.BoolLaws.{contradiction}
 use Rattle.words.specs.Fields.{word, RANGE, NEXT}
 use Rattle.words.specs.Raw.{number}
 use Rattle.words.specs.Tokens.{OwnName}
 use Rattle.words.proofs.FieldLaws.{kind-word, p-word}
 use Rattle.code.specs.Statements.{depth-in}
 use Rattle.coding.specs.Pass.{Depths, depths-after, depths-at}
-use Rattle.coded.proofs.Bytes.{never, of-true, same-sym}
 use Rattle.coded.proofs.Given.{Case}
 use Rattle.coded.proofs.Agreeing.{name-here, name-text}
 use Rattle.coded.proofs.Standing.{Deep}
@@ -58,7 +58,7 @@ module _ (C : Case) where
       apart t m = go (same (x .text) (t .text)) refl
         where
           go : (b : Bool) → same (x .text) (t .text) ≡ b → b ≡ false
-          go true e = never (member (x .text) scope) (subst (λ (y : Text). member y scope ≡ true) (sym (same-eq (x .text) (t .text) (of-true (same (x .text) (t .text)) e))) m) fresh
+          go true e = contradiction (member (x .text) scope) (subst (λ (y : Text). member y scope ≡ true) (sym (same-equal (x .text) (t .text) e)) m) fresh
           go false e = refl
 
       -- the others keep theirs
@@ -91,7 +91,7 @@ module _ (C : Case) where
           apart t m = go (same x (t .text)) refl
             where
               go : (b : Bool) → same x (t .text) ≡ b → b ≡ false
-              go true e = never (member x scope) (subst (λ (y : Text). member y scope ≡ true) (sym (same-eq x (t .text) (of-true (same x (t .text)) e))) m) fresh
+              go true e = contradiction (member x scope) (subst (λ (y : Text). member y scope ≡ true) (sym (same-equal x (t .text) e)) m) fresh
               go false e = refl
 
           inside : (t : Token) → member (t .text) scope ≡ true → member (t .text) (x ∷ scope) ≡ true

@@ -12,7 +12,7 @@ use Rattle.definition.specs.Token.{Token}
 use Rattle.definition.specs.Syntax.{Term, name, string, anything, Expression, Item}
 use Rattle.definition.specs.Names.{Use, attribute-only, in-terms, in-expression, in-item, attributes, free, closures, subset, item-expressions}
 use Rattle.definition.specs.Accept.{elements}
-use Rattle.definition.proofs.BoolLaws.{or-cases, or-left}
+use Rattle.definition.proofs.BoolLaws.{or-cases, or-left, contradiction}
 use Rattle.definition.proofs.MeaningLaws.{same-eq, same-refl}
 use Rattle.definition.proofs.RelationLaws.{place-of}
 use Rattle.definition.proofs.ScopeLaws as Laws
@@ -22,7 +22,7 @@ use Rattle.words.specs.Fields.{word, kind-of, p-of, q-of, RELATION-NAME, ATTRIB
 use Rattle.words.specs.Raw.{number, leaves, size, flat, size-items, flat-items}
 use Rattle.words.specs.Tokens.{OwnName, OwnTerms, OwnExpression, OwnItems}
 use Rattle.words.specs.Standing.{Has}
-use Rattle.words.proofs.FieldLaws.{kind-word, p-word}
+use Rattle.words.proofs.FieldLaws.{kind-word, p-word, byte-a, byte-b, byte-c, byte-d}
 use Rattle.digits.specs.Lists.{pack}
 use Rattle.eval.specs.Nodes.{slot, c-of}
 use Rattle.free.specs.Words.{is-leaf}
@@ -40,7 +40,7 @@ use Rattle.lowering.proofs.Printing.{lowered-print}
 use Rattle.prints.specs.Lowered.{PrintLowered}
 use Rattle.actions.specs.Doing.{columns-of}
 use Rattle.code.specs.Statements.{TestCode, RangeCode, AssignCode, PrintCode}
-use Rattle.coded.proofs.Bytes.{never, of-true, named}
+use Rattle.coded.proofs.Bytes.{named}
 use Rattle.coded.proofs.Given.{Case, Place}
 use Rattle.coded.proofs.Agreeing.{own-tokens, In, β, Clear, short, apart, clear-first, agrees, spelled, filled}
 use Rattle.coded.proofs.Scoping.{Closed, Placed, scoped, scoped-lefts, scoped-items, known-relation}
@@ -65,8 +65,8 @@ within [] ys e x m = absurd m
 within (y ∷ xs) ys e x m = go (member y ys) refl e (within xs ys)
   where
     go : (b : Bool) → member y ys ≡ b → b && subset xs ys ≡ true → (subset xs ys ≡ true → (x : Text) → T (member x xs) → T (member x ys)) → T (member x ys)
-    go false f g more = never false g refl
-    go true f g more = ⊎-elim (λ t. subst (λ (z : Text). T (member z ys)) (sym (same-eq x y t)) (of-true (member y ys) f)) (λ t. more g x t) (or-cases (same x y) (member x xs) m)
+    go false f g more = contradiction false g refl
+    go true f g more = ⊎-elim (λ t. subst (λ (z : Text). T (member z ys)) (sym (same-eq x y t)) (subst T (sym f) tt)) (λ t. more g x t) (or-cases (same x y) (member x xs) m)
 
 leaf-kinds : (is-leaf RELATION-NAME ≡ false) × (is-leaf ATTRIBUTE ≡ false) × (is-leaf (STRING + ATTRIBUTE) ≡ false) × (is-leaf BIND ≡ false)
 unfolding is-leaf

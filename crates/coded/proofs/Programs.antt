@@ -1,5 +1,5 @@
 -- What holds of the parts of an accepted program.
-use Prim.Native.Nat.{ℕ, _+_, _-_}
+use Prim.Native.Nat.{ℕ}
 use mathlib.Core.Path.{_≡_, refl}
 use mathlib.Core.Bool.{Bool, true, false, _||_}
 use mathlib.Core.List.{List, [], _∷_, _++_}
@@ -9,7 +9,7 @@ use Rattle.definition.specs.Token.{Token}
 use Rattle.definition.specs.Syntax.{Term, name, string, anything, Expression, Item, Program, assign, print, test, while, for, block}
 use Rattle.definition.specs.Facts.{Element}
 use Rattle.definition.specs.Names.{Use, use-as, attribute-only, enter, leave, in-terms, in-expression, in-item, in-program, Known, strings, left-strings}
-use Rattle.definition.proofs.BoolLaws.{is-true}
+use Rattle.definition.proofs.BoolLaws.{is-true, contradiction}
 use Rattle.definition.proofs.MeaningLaws.{same-refl}
 use Rattle.definition.proofs.AcceptLaws.{has}
 use Rattle.definition.proofs.NameLaws.{Fitting, one, fitting-left, fitting-right}
@@ -18,7 +18,6 @@ use Rattle.definition.proofs.NestingLaws.{Nested}
 use Rattle.definition.proofs.RowLaws.{RowsOk}
 use Rattle.definition.proofs.FormLaws.{Formed}
 use Rattle.words.specs.Tokens.{OwnProgram}
-use Rattle.coded.proofs.Bytes.{never}
 use Rattle.coded.proofs.Given.{Case}
 use Rattle.coded.proofs.Scoping.{Placed}
 
@@ -28,7 +27,7 @@ Lefts us es = (x : Text) → has x es ≡ true → member x us ≡ true
 
 has-left : (x : Text) (es fs : List Element) → has x es ≡ true → has x (es ++ fs) ≡ true
 unfolding has some-of
-has-left x [] fs h = never false h refl
+has-left x [] fs h = contradiction false h refl
 has-left x (e ∷ es) fs h = go (same x (e .value)) h (has-left x es fs)
   where
     go : (b : Bool) → b || has x es ≡ true → (has x es ≡ true → has x (es ++ fs) ≡ true) → b || has x (es ++ fs) ≡ true

@@ -2,7 +2,7 @@
 use Prim.Native.Nat.{ℕ, suc, _+_, _-_, _<_, _≤_}
 use mathlib.Core.Path.{_≡_, refl, sym, ap, _∙_}
 use mathlib.Core.Bool.{Bool, true, false, cond, _||_}
-use mathlib.Core.List.{List, [], _∷_, _++_, append-assoc}
+use mathlib.Core.List.{List, [], _∷_, _++_}
 use native.Mathlib.Omega.{arith}
 use lib.ListN.{length, getD}
 use Rattle.definition.specs.Text.{Text, same, member, some-of, gather}
@@ -17,6 +17,8 @@ use Rattle.definition.proofs.ScopeLaws as Laws
 use Rattle.definition.proofs.ScopeLaws.{AllNamed, InScope, IsAttribute, IsRelation, held-variable, held-attribute, ScopedExpression}
 use Rattle.definition.proofs.RowLaws.{Every}
 use Rattle.definition.proofs.FormLaws.{FormedWord, FormedLefts, FormedLabel, FormedItem, FormedItems}
+use Rattle.definition.proofs.BoolLaws.{contradiction}
+use Rattle.definition.proofs.ListLaws.{gather-append}
 use Rattle.words.specs.Fields.{word, RELATION-NAME, ATTRIBUTE, TERM, WORD, STRING}
 use Rattle.words.specs.Raw.{number, leaf, leaves, size, flat, size-item, flat-item, size-items, flat-items}
 use Rattle.words.specs.Tokens.{OwnName, OwnString, OwnTerm, OwnTerms, OwnExpression, OwnItem, OwnItems}
@@ -28,7 +30,6 @@ use Rattle.free.proofs.Slotted.{Covered, covered-split}
 use Rattle.lowering.specs.Agreement.{Held, Known, Scoped, ScopedTerms, ScopedLefts, ScopedWord, ScopedLabel, ScopedItem, ScopedItems}
 use Rattle.lowering.specs.Agreement as Agreement
 use Rattle.coding.specs.Pass.{is-named}
-use Rattle.coded.proofs.Bytes.{never}
 use Rattle.coded.proofs.Kept.{true-by, keep-name, keep-string}
 use Rattle.coded.proofs.Given.{Case, Place}
 use Rattle.coded.proofs.Agreeing.{is-loop, takes-token, own-tokens, In, apart}
@@ -36,7 +37,7 @@ use Rattle.coded.proofs.Agreeing.{is-loop, takes-token, own-tokens, In,
 -- an element of the universe has a number
 some-number : (x : Text) (us : List Text) (i : ℕ) → member x us ≡ true → numbers x us i ≡ [] → ⊥
 unfolding numbers member some-of
-some-number x [] i e f = never false e refl
+some-number x [] i e f = contradiction false e refl
 some-number x (u ∷ us) i e f = go (same x u) e f (some-number x us (suc i))
   where
     go : (b : Bool) → b || member x us ≡ true → cond b (i ∷ numbers x us (suc i)) (numbers x us (suc i)) ≡ [] → (member x us ≡ true → numbers x us (suc i) ≡ [] → ⊥) → ⊥
@@ -51,11 +52,6 @@ pub closed-split : (v : Text → Bool) (xs ys : List Expression) → Closed v (x
 unfolding Every
 closed-split v [] ys c = (tt, c)
 closed-split v (x ∷ xs) ys c = let r = closed-split v xs ys (c .1) in ((c .0, r .0), r .1)
-
-gather-append : (xs ys : List Expression) → gather closures (xs ++ ys) ≡ gather closures xs ++ gather closures ys
-unfolding gather
-gather-append [] ys = refl
-gather-append (x ∷ xs) ys = ap (λ (l : List Expression). closures x ++ l) (gather-append xs ys) ∙ sym (append-assoc (closures x) (gather closures xs) (gather closures ys))
 
 -- the strings of a left-hand side are elements
 unfoldable pub Placed : List Text → List Term → Type 0
@@ -230,5 +226,5 @@ module _ (C : Case) (scope : List Text) (s k : ℕ) (names : List Text) (P : Pla
       let t = has-append (C .words) n (flat-item i n) _ x in
       let y : Has (C .words) (n + size-item i) (flat-items is (n + size-item i)) = rw (length-item i n) at (t .1) in
       let d = covered-split names v (apart C scope s k names P) (in-item i) (gather in-item is) c in
-      let q = closed-split v (gather closures (item-expressions i)) (gather closures (gather item-expressions is)) (rw (gather-append (item-expressions i) (gather item-expressions is)) at cl) in
+      let q = closed-split v (gather closures (item-expressions i)) (gather closures (gather item-expressions is)) (rw (gather-append closures (item-expressions i) (gather item-expressions is)) at cl) in
       (scoped-item i n (S .0) (f .0) (o .0) (d .0) (q .0) l (omega arith) (t .0), scoped-items is (n + size-item i) (S .1) (f .1) (o .1) (d .1) (q .1) (omega arith) (omega arith) y)

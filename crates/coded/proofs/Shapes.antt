@@ -1,8 +1,8 @@
 -- The words of each kind of statement, and what stays over them.
-use Prim.Native.Nat.{ℕ, _+_, _-_, _<_}
+use Prim.Native.Nat.{ℕ, _+_, _<_}
 use mathlib.Core.Path.{_≡_, refl, sym, ap, subst, _∙_}
 use mathlib.Core.Bool.{Bool, true}
-use mathlib.Core.List.{List, [], _∷_, _++_, append-nil}
+use mathlib.Core.List.{List, [], _∷_, _++_}
 use native.Mathlib.Omega.{arith}
 use lib.ListN.{length, getD, length-append}
 use Rattle.definition.specs.Text.{Text, gather}
@@ -10,6 +10,7 @@ use Rattle.definition.specs.Token.{Token}
 use Rattle.definition.specs.Syntax.{Term, Expression, Item}
 use Rattle.definition.specs.Names.{Use, use-as, before-terms, attribute-only, after-for, enter, leave, in-terms, in-expression, in-item, attribute-names, closures, item-expressions}
 use Rattle.definition.proofs.RowLaws.{Every, StatementOk}
+use Rattle.definition.proofs.ListLaws.{gather-one}
 use Rattle.words.specs.Fields.{word, kind-of, RELATION-NAME, ATTRIBUTE, BIND, RANGE, NEXT, CLOSURE, ASSIGN, TEST, PRINT}
 use Rattle.words.specs.Raw.{number, leaves, size, flat, size-items, flat-items}
 use Rattle.words.specs.Tokens.{OwnName, OwnTerms, OwnExpression, OwnItems}
@@ -19,16 +20,15 @@ use Rattle.words.specs.Shown as Shown
 use Rattle.words.proofs.FieldLaws.{kind-word}
 use Rattle.words.proofs.Sizes.{length-leaves, length-flat, length-items}
 use Rattle.words.proofs.NameOrder.{both, first, leaves-uses, expression-uses, items-uses}
+use Rattle.words.specs.Parts.{ends}
+use Rattle.words.proofs.EachKind.{each-append, each-cons, each-none, each-leaves, each-expression}
+use Rattle.words.proofs.StatementParts.{quiet, quiet-inner, quiet-items}
 use Rattle.slots.specs.Slots.{closure-count}
 use Rattle.slots.proofs.ClosureCount.{skip, count-expression, count-assign, count-items}
 use Rattle.actions.specs.Parts.{is-statement, start}
 use Rattle.coded.proofs.Given.{Case, depths-before}
-use Rattle.coded.proofs.Quiet.{quiet-append, quiet-cons, quiet-nil, quiet-leaves, quiet-expression, quiet-items, depths-quiet}
+use Rattle.coded.proofs.Quiet.{depths-quiet}
 use Rattle.coded.proofs.Standing.{names-last, shows-last, count-last, Shape, quiet-before}
-
-one-gathered : (e : Expression) → length (closures e) ≡ length (gather closures (e ∷ []))
-unfolding gather
-one-gathered e = ap length (sym (append-nil (closures e)))
 
 -- a word of kind K: whether it is a statement's own
 own-kind : (K p q r : ℕ) → K < 256 → is-statement K ≡ true → is-statement (kind-of (word K p q r)) ≡ true
@@ -48,12 +48,12 @@ module _ (C : Case) where
     own = word TEST 0 l i;
     has = x;
     long = ap (λ (j : ℕ). n + j) (sym (length-flat e n));
-    quiet = quiet-expression e n;
+    quiet = each-expression quiet quiet-inner e n;
     statement = own-kind TEST 0 l i (omega arith) refl;
     uses = in-expression e;
     shows = shows-last (C .ts) (word TEST 0 l i) (past-names TEST 0 l i (omega arith) (omega arith)) (expression-uses (C .ts) (C .few) e n (omega (arith, C .small)) o);
     names = refl;
-    count = count-last (flat e n) TEST 0 l i (omega arith) (λ z. omega arith) ∙ count-expression e n ∙ one-gathered e;
+    count = count-last (flat e n) TEST 0 l i (omega arith) (λ z. omega arith) ∙ count-expression e n ∙ ap length (sym (gather-one closures e));
     inside = h;
   }
 
@@ -77,7 +77,7 @@ module _ (C : Case) where
   pub assign-shape : (r : Token) (ps : List Term) (e : Expression) (n i : ℕ) → OwnName (C .ts) r → OwnTerms (C .ts) ps → OwnExpression (C .ts) e → n + 1 + length ps + size e < length (C .words)
       → Has (C .words) n ((word RELATION-NAME (number r) (length ps) 0 ∷ (leaves ATTRIBUTE ps ++ flat e (n + 1 + length ps))) ++ (word ASSIGN n (length ps) i ∷ []))
       → Shape C n (n + 1 + length ps + size e) (in-terms attribute-only ps ++ in-expression e) (e ∷ [])
-  unfolding is-statement role-of attribute-names
+  unfolding ends is-statement role-of attribute-names
   assign-shape r ps e n i or op oe h x =
       let m = n + 1 + length ps in
       let ws = word RELATION-NAME (number r) (length ps) 0 ∷ (leaves ATTRIBUTE ps ++ flat e m) in
@@ -86,20 +86,20 @@ module _ (C : Case) where
         own = word ASSIGN n (length ps) i;
         has = x;
         long = omega (arith, length-append (leaves ATTRIBUTE ps) (flat e m), length-leaves ATTRIBUTE ps, length-flat e m);
-        quiet = quiet-cons RELATION-NAME (number r) (length ps) 0 (leaves ATTRIBUTE ps ++ flat e m) (omega arith) refl (quiet-append (leaves ATTRIBUTE ps) (flat e m) (quiet-leaves ATTRIBUTE ps (omega arith) refl refl) (quiet-expression e m));
+        quiet = each-cons quiet RELATION-NAME (number r) (length ps) 0 (leaves ATTRIBUTE ps ++ flat e m) (omega arith) refl (each-append quiet (leaves ATTRIBUTE ps) (flat e m) (each-leaves quiet quiet-inner ATTRIBUTE ps (omega arith) (omega arith)) (each-expression quiet quiet-inner e m));
         statement = own-kind ASSIGN n (length ps) i (omega arith) refl;
         uses = use-as (before-terms (length ps)) r ∷ (in-terms attribute-only ps ++ in-expression e);
         shows = shows-last (C .ts) (word ASSIGN n (length ps) i) (past-names ASSIGN n (length ps) i (omega arith) (omega arith))
             (first (C .ts) (C .few) RELATION-NAME (length ps) 0 r (omega arith) (omega arith) or (omega (arith, C .small))
             (both (C .ts) (C .few) (leaves-uses (C .ts) (C .few) ATTRIBUTE attribute-only ps (omega arith) (omega arith) refl op) (expression-uses (C .ts) (C .few) e m (omega (arith, C .small)) oe)));
         names = refl;
-        count = count-last ws ASSIGN n (length ps) i (omega arith) (λ z. omega arith) ∙ count-assign (number r) (length ps) ps e m ∙ one-gathered e;
+        count = count-last ws ASSIGN n (length ps) i (omega arith) (λ z. omega arith) ∙ count-assign (number r) (length ps) ps e m ∙ ap length (sym (gather-one closures e));
         inside = h;
       }
 
   pub range-shape : (t : Token) (e : Expression) (n l i : ℕ) → OwnName (C .ts) t → OwnExpression (C .ts) e → n + 1 + size e < length (C .words) → l < 65536
       → Has (C .words) n ((word BIND (number t) 0 0 ∷ flat e (n + 1)) ++ (word RANGE (number t) l i ∷ [])) → Shape C n (n + 1 + size e) (in-expression e) (e ∷ [])
-  unfolding is-statement role-of attribute-names
+  unfolding ends is-statement role-of attribute-names
   range-shape t e n l i o oe h hl x =
       let ws = word BIND (number t) 0 0 ∷ flat e (n + 1) in
       record {
@@ -107,13 +107,13 @@ module _ (C : Case) where
         own = word RANGE (number t) l i;
         has = x;
         long = omega (arith, length-flat e (n + 1));
-        quiet = quiet-cons BIND (number t) 0 0 (flat e (n + 1)) (omega arith) refl (quiet-expression e (n + 1));
+        quiet = each-cons quiet BIND (number t) 0 0 (flat e (n + 1)) (omega arith) refl (each-expression quiet quiet-inner e (n + 1));
         statement = own-kind RANGE (number t) l i (omega arith) refl;
         uses = use-as after-for t ∷ (in-expression e ++ (use-as enter t ∷ []));
         shows = first (C .ts) (C .few) BIND 0 0 t (omega arith) (omega arith) o (omega arith)
             (both (C .ts) (C .few) (expression-uses (C .ts) (C .few) e (n + 1) (omega (arith, C .small)) oe) (first (C .ts) (C .few) RANGE l i t (omega arith) (omega arith) o hl Shown.none));
         names = names-last v (in-expression e) enter t refl;
-        count = count-last ws RANGE (number t) l i (omega arith) (λ z. omega arith) ∙ skip BIND (number t) 0 0 (flat e (n + 1)) (omega arith) (λ z. omega arith) (count-expression e (n + 1)) ∙ one-gathered e;
+        count = count-last ws RANGE (number t) l i (omega arith) (λ z. omega arith) ∙ skip BIND (number t) 0 0 (flat e (n + 1)) (omega arith) (λ z. omega arith) (count-expression e (n + 1)) ∙ ap length (sym (gather-one closures e));
         inside = h;
       }
 
@@ -125,7 +125,7 @@ module _ (C : Case) where
     own = word K p q r;
     has = (x, tt);
     long = omega arith;
-    quiet = quiet-nil;
+    quiet = each-none quiet;
     statement = own-kind K p q r hK e;
     uses = [];
     shows = Shown.other (past-names K p q r hK l) Shown.none;
@@ -141,7 +141,7 @@ module _ (C : Case) where
     own = word NEXT (number t) q 0;
     has = (x, tt);
     long = omega arith;
-    quiet = quiet-nil;
+    quiet = each-none quiet;
     statement = own-kind NEXT (number t) q 0 (omega arith) refl;
     uses = use-as leave t ∷ [];
     shows = first (C .ts) (C .few) NEXT q 0 t (omega arith) (omega arith) o hq Shown.none;

@@ -1,7 +1,7 @@
 -- Where one statement stands: its part of the words, its names, and the depths of the open loop variables.
 use Prim.Native.Nat.{ℕ, suc, _+_, _-_, _<_, _≤_}
 use mathlib.Core.Path.{_≡_, refl, sym, ap, subst, _∙_}
-use mathlib.Core.Bool.{Bool, true, false, not, cond, _&&_, _||_}
+use mathlib.Core.Bool.{Bool, true, false, not, cond, _&&_, _||_, or-false}
 use mathlib.Core.Logic.{inl, inr}
 use mathlib.Core.List.{List, [], _∷_, _++_}
 use native.Mathlib.Omega.{arith}
@@ -12,8 +12,8 @@ use Rattle.definition.specs.Token.{Token}
 use Rattle.definition.specs.Syntax.{Expression}
 use Rattle.definition.specs.Names.{Role, before-terms, attribute-only, term, variable-only, after-for, enter, leave, Use, use-as, Known, attribute, is-variable, join, takes-attribute, attribute-names, closures}
 use Rattle.definition.specs.Accept.{elements}
-use Rattle.definition.proofs.BoolLaws.{is-true}
-use Rattle.definition.proofs.MeaningLaws.{same-eq}
+use Rattle.definition.proofs.BoolLaws.{is-true, contradiction}
+use Rattle.definition.proofs.MeaningLaws.{same-equal}
 use Rattle.definition.proofs.NameLaws.{Fits, Fitting, one}
 use Rattle.definition.proofs.RowLaws.{StatementOk}
 use Rattle.words.specs.Fields.{word, kind-of, NEXT, CLOSURE}
@@ -24,6 +24,7 @@ use Rattle.words.specs.Shown.{Shows}
 use Rattle.words.specs.Shown as Shown
 use Rattle.words.proofs.FieldLaws.{kind-word}
 use Rattle.words.proofs.Places.{has-append, has-part}
+use Rattle.words.proofs.StatementParts.{Quiet}
 use Rattle.slots.specs.Slots.{one-closure, closure-count}
 use Rattle.slots.proofs.Attributes.{Coded, coded-length, statement-names}
 use Rattle.slots.specs.Slots.{names-of}
@@ -32,41 +33,37 @@ use Rattle.lowering.proofs.Filling.{none-before}
 use Rattle.lowering.proofs.Places.{closures-has}
 use Rattle.lowering.proofs.Masks.{some-join}
 use Rattle.actions.specs.Parts.{is-statement, start}
+use Rattle.actions.proofs.Parts.{start-quiet}
 use Rattle.code.specs.Statements.{depth-in, Whole}
 use Rattle.coding.specs.Pass.{Depths, names-between, Made}
-use Rattle.coded.proofs.Bytes.{never, of-true}
 use Rattle.coded.proofs.Given.{Case, depths-before, Place}
 use Rattle.coded.proofs.Agreeing.{is-loop, filled}
-use Rattle.coded.proofs.Quiet.{Quiet, start-quiet, start-after, quiet-words, quiet-low, own-low}
+use Rattle.coded.proofs.Quiet.{start-after, quiet-words, quiet-low, own-low}
 
 -- an attribute name is known as an attribute
 fits-attribute : (p : Role) (x : Known) → takes-attribute p ≡ true → is-variable x ≡ false → Fits p x → x ≡ attribute
-fits-attribute (before-terms n) x e f h = never false e refl
+fits-attribute (before-terms n) x e f h = contradiction false e refl
 fits-attribute attribute-only x e f h = h
 fits-attribute term x e f (inl h) = h
-fits-attribute term x e f (inr t) = never (is-variable x) (is-true (is-variable x) t) f
-fits-attribute variable-only x e f h = never false e refl
-fits-attribute after-for x e f h = never false e refl
-fits-attribute enter x e f h = never false e refl
-fits-attribute leave x e f h = never false e refl
+fits-attribute term x e f (inr t) = contradiction (is-variable x) (is-true (is-variable x) t) f
+fits-attribute variable-only x e f h = contradiction false e refl
+fits-attribute after-for x e f h = contradiction false e refl
+fits-attribute enter x e f h = contradiction false e refl
+fits-attribute leave x e f h = contradiction false e refl
 
-or-none : (b : Bool) → b || false ≡ b
-or-none true = refl
-or-none false = refl
-
-member-first : (x y : Text) (rs : List Text) → member x (join (y ∷ []) rs) ≡ same x y || member x rs
+member-join : (x y : Text) (rs : List Text) → member x (join (y ∷ []) rs) ≡ same x y || member x rs
 unfolding member some-of
-member-first x y rs = some-join (same x) (y ∷ []) rs ∙ ap (λ (b : Bool). b || some-of (same x) rs) (or-none (same x y))
+member-join x y rs = some-join (same x) (y ∷ []) rs ∙ ap (λ (b : Bool). b || some-of (same x) rs) (or-false (same x y))
 
 pub names-attributes : (v : Text → Bool) (known : Text → Known) → ((x : Text) → is-variable (known x) ≡ v x) → (us : List Use) → Fitting known us → (x : Text) → member x (attribute-names v us) ≡ true → known x ≡ attribute
 unfolding attribute-names member some-of
-names-attributes v known k [] f x m = never false m refl
+names-attributes v known k [] f x m = contradiction false m refl
 names-attributes v known k (u ∷ us) (one h f) x m = go (takes-attribute (u .role)) (v (u .token .text)) refl refl m (names-attributes v known k us f x)
   where
     first-or : (b : Bool) → same x (u .token .text) ≡ b → takes-attribute (u .role) ≡ true → v (u .token .text) ≡ false → b || member x (attribute-names v us) ≡ true → (member x (attribute-names v us) ≡ true → known x ≡ attribute)
         → known x ≡ attribute
     first-or true g a e n more =
-        subst (λ (z : Text). known z ≡ attribute) (sym (same-eq x (u .token .text) (of-true (same x (u .token .text)) g)))
+        subst (λ (z : Text). known z ≡ attribute) (sym (same-equal x (u .token .text) g))
         (fits-attribute (u .role) (known (u .token .text)) a (k (u .token .text) ∙ e) h)
     first-or false g a e n more = more n
 
@@ -74,7 +71,7 @@ names-attributes v known k (u ∷ us) (one h f) x m = go (takes-attribute (u .ro
         → (member x (attribute-names v us) ≡ true → known x ≡ attribute) → known x ≡ attribute
     go false b a e n more = more n
     go true true a e n more = more n
-    go true false a e n more = first-or (same x (u .token .text)) refl a e (sym (member-first x (u .token .text) (attribute-names v us)) ∙ n) more
+    go true false a e n more = first-or (same x (u .token .text)) refl a e (sym (member-join x (u .token .text) (attribute-names v us)) ∙ n) more
 
 -- one use more, of no attribute
 pub names-last : (v : Text → Bool) (us : List Use) (p : Role) (t : Token) → takes-attribute p ≡ false → attribute-names v (us ++ (use-as p t ∷ [])) ≡ attribute-names v us

@@ -1,5 +1,5 @@
 -- One statement of a program, kind by kind: its code, and what stands after it.
-use Prim.Native.Nat.{ℕ, suc, _+_, _-_, _<_, _≤_}
+use Prim.Native.Nat.{ℕ, suc, _+_, _<_, _≤_}
 use mathlib.Core.Path.{_≡_, refl, sym, ap, subst, _∙_}
 use mathlib.Core.Bool.{Bool, true, false, _||_}
 use mathlib.Core.List.{List, [], _∷_, _++_, append-assoc}
@@ -10,7 +10,7 @@ use Rattle.definition.specs.Token.{Token}
 use Rattle.definition.specs.Syntax.{Term, Expression, Item, Program, assign, print}
 use Rattle.definition.specs.Names.{Use, attribute-only, in-terms, in-expression, in-item, in-program, variables, attribute-names, free, closures, item-expressions, strings, left-strings}
 use Rattle.definition.proofs.BoolLaws.{is-true, is-false}
-use Rattle.definition.proofs.MeaningLaws.{same-eq, same-refl}
+use Rattle.definition.proofs.MeaningLaws.{same-equal, same-itself, member-first}
 use Rattle.definition.proofs.NameLaws.{Fitting, none, fitting-left}
 use Rattle.definition.proofs.ScopeLaws.{ScopedExpression, Fresh, ScopedProgram}
 use Rattle.definition.proofs.RowLaws.{StatementOk, RowsOk}
@@ -19,7 +19,7 @@ use Rattle.words.specs.Fields.{word, RELATION-NAME, ATTRIBUTE, BIND, RANGE, NEX
 use Rattle.words.specs.Raw.{number, leaves, size, flat, size-items, flat-items, size-program, flat-program}
 use Rattle.words.specs.Tokens.{OwnName, OwnExpression, OwnProgram}
 use Rattle.words.specs.Standing.{Has}
-use Rattle.words.proofs.Places.{has-append}
+use Rattle.words.proofs.Places.{has-append, has-cut}
 use Rattle.words.proofs.Sizes.{length-leaves, length-flat, length-items}
 use Rattle.free.proofs.Slotted.{Covered, covered-names}
 use Rattle.actions.specs.Parts.{is-statement}
@@ -28,7 +28,6 @@ use Rattle.machine.specs.Instructions as Instr
 use Rattle.code.specs.Statements.{depth-in, Whole, TestCode, RangeCode}
 use Rattle.code.specs.Program.{Code, code-assign, code-print}
 use Rattle.coding.specs.Pass.{Depths}
-use Rattle.coded.proofs.Bytes.{of-true}
 use Rattle.coded.proofs.Given.{Case, depths-before, Place}
 use Rattle.coded.proofs.Agreeing.{is-loop, apart}
 use Rattle.coded.proofs.Scoping.{Closed, closed-split}
@@ -39,25 +38,13 @@ use Rattle.coded.proofs.Shapes.{test-shape, print-shape, assign-shape, 
 use Rattle.coded.proofs.Moves.{Loops, plain, assign-instr, print-instr, test-instr, again-instr, jump-instr, range-instr, next-instr}
 use Rattle.coded.proofs.Programs.{lefts-left, lefts-placed, fit-tail, Fine}
 
--- words up to one of them, and those after it
-pub cut : (words : List ℕ) (n m : ℕ) (xs : List ℕ) (w : ℕ) (ys : List ℕ) → n + length xs + 1 ≡ m → Has words n (xs ++ (w ∷ ys)) → Has words n (xs ++ (w ∷ [])) × Has words m ys
-cut words n m xs w ys e h =
-    let g : Has words n ((xs ++ (w ∷ [])) ++ ys) = rw append-assoc h in
-    let a = has-append words n (xs ++ (w ∷ [])) ys g in
-    let j : n + length (xs ++ (w ∷ [])) ≡ m = omega (arith, e, length-append xs (w ∷ [])) in
-    (a .0, rw j at (a .1))
-
 pub last-word : (words : List ℕ) (n m : ℕ) (xs : List ℕ) (w : ℕ) → n + length xs ≡ m → Has words n (xs ++ (w ∷ [])) → getD words m 0 ≡ w
 unfolding Has
 last-word words n m xs w e h = let a = has-append words n xs (w ∷ []) h in subst (λ (j : ℕ). getD words j 0 ≡ w) e (a .1 .0)
 
-first-member : (x : Text) (xs : List Text) → member x (x ∷ xs) ≡ true
-unfolding member some-of
-first-member x xs = rw (is-true (same x x) (same-refl x)) refl
-
 first-depth : (x : Text) (xs : List Text) → depth-in x (x ∷ xs) ≡ length xs
 unfolding depth-in
-first-depth x xs = rw (is-true (same x x) (same-refl x)) refl
+first-depth x xs = rw (same-itself x) refl
 
 has-first : (words : List ℕ) (n w : ℕ) (ws : List ℕ) → Has words n (w ∷ ws) → (getD words n 0 ≡ w) × Has words (n + 1) ws
 unfolding Has
@@ -95,7 +82,7 @@ module _ (C : Case) where
         let ws = word RELATION-NAME (number r) (length ps) 0 ∷ (leaves ATTRIBUTE ps ++ flat e (n + 1 + length ps)) in
         let ln = length-append (leaves ATTRIBUTE ps) (flat e (n + 1 + length ps)) in
         let g : Has (C .words) n (ws ++ (word ASSIGN n (length ps) i ∷ flat-program q (k + 1))) = rw append-assoc x in
-        let c = cut (C .words) n (k + 1) ws (word ASSIGN n (length ps) i) (flat-program q (k + 1)) (omega (arith, ln, length-leaves ATTRIBUTE ps, length-flat e (n + 1 + length ps))) g in
+        let c = has-cut (C .words) n (k + 1) ws (word ASSIGN n (length ps) i) (flat-program q (k + 1)) (omega (arith, ln, length-leaves ATTRIBUTE ps, length-flat e (n + 1 + length ps))) g in
         let S = assign-shape C r ps e n i (o .1) (o .2) (o .3) (omega (arith, h)) (c .0) in
         let fit′ = fit-tail (F .fit) in
         let fit = fitting-left us (in-program q) (subst (Fitting (C .kinds .known)) (sym (append-assoc (in-terms attribute-only ps) (in-expression e) (in-program q))) fit′) in
@@ -121,7 +108,7 @@ module _ (C : Case) where
         let k = n + size-items is in
         let us = gather in-item is in
         let es = gather item-expressions is in
-        let c = cut (C .words) n (k + 1) (flat-items is n) (word PRINT n 0 i) (flat-program q (k + 1)) (omega (arith, length-items is n)) x in
+        let c = has-cut (C .words) n (k + 1) (flat-items is n) (word PRINT n 0 i) (flat-program q (k + 1)) (omega (arith, length-items is n)) x in
         let S = print-shape C is n i (o .1) (omega (arith, h)) (c .0) in
         let fit = fitting-left us (in-program q) (F .fit) in
         let ow : getD (C .words) k 0 ≡ word PRINT n 0 i = last-word (C .words) n k (flat-items is n) (word PRINT n 0 i) (omega (arith, length-items is n)) (c .0) in
@@ -215,7 +202,7 @@ module _ (C : Case) where
       let held : (u : Token) → OwnName (C .ts) u → member (u .text) (t .text ∷ scope) ≡ true → getD (depths-before C (suc n) .depths) (getD (C .ids) (number u) 0) 0 ≡ depth-in (u .text) (t .text ∷ scope)
       = λ u p m. ap (λ (y : Depths). getD (y .depths) (getD (C .ids) (number u) 0) 0) d ∙ B .depths .held u p m in
       let P = placed C (t .text ∷ scope) n n [] [] S (B .start-words) (nothing-ok C) none loops (omega arith) held in (
-        next-instr C (t .text ∷ scope) n n (attribute-names v []) P t o (fr .1) (length scope) deep (held t o (first-member (t .text) scope) ∙ first-depth (t .text) scope) q 0 hq e,
+        next-instr C (t .text ∷ scope) n n (attribute-names v []) P t o (fr .1) (length scope) deep (held t o (is-true (member (t .text) (t .text ∷ scope)) (member-first (t .text) scope)) ∙ first-depth (t .text) scope) q 0 hq e,
         record {
           start-words = after-words C (t .text ∷ scope) n n [] [] S (B .start-words) (nothing-ok C) none loops (omega arith) held;
           start-low = after-low C (t .text ∷ scope) n n [] [] S (B .start-words) (nothing-ok C) none loops (omega arith) held;
@@ -229,5 +216,5 @@ module _ (C : Case) where
   more-loops scope x loops h y m = go (same y x) refl m
     where
       go : (b : Bool) → same y x ≡ b → b || member y scope ≡ true → v y ≡ true
-      go true e n = subst (λ (z : Text). v z ≡ true) (sym (same-eq y x (of-true (same y x) e))) (sym (is-loop C x) ∙ h)
+      go true e n = subst (λ (z : Text). v z ≡ true) (sym (same-equal y x e)) (sym (is-loop C x) ∙ h)
       go false e n = loops y n

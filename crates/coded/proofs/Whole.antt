@@ -16,7 +16,7 @@ use Rattle.words.specs.Fields.{word, BIND, RANGE, NEXT, TEST, JUMP, AGAIN}
 use Rattle.words.specs.Raw.{number, size, flat, size-items, size-program, flat-program}
 use Rattle.words.specs.Tokens.{OwnProgram}
 use Rattle.words.specs.Standing.{Has}
-use Rattle.words.proofs.Places.{has-append}
+use Rattle.words.proofs.Places.{has-append, has-cut}
 use Rattle.words.proofs.Sizes.{length-flat, length-program}
 use Rattle.machine.specs.Instructions as Instr
 use Rattle.code.specs.Program.{Code, code-end, code-test, code-while, code-for, code-block}
@@ -24,7 +24,7 @@ use Rattle.coded.proofs.Given.{Case}
 use Rattle.coded.proofs.Standing.{Begun}
 use Rattle.coded.proofs.Moves.{Loops}
 use Rattle.coded.proofs.Programs.{fit-tail, Fine, fine-assign, fine-print, fine-test, fine-while, fine-for, fine-block}
-use Rattle.coded.proofs.Steps.{cut, last-word, has-at, assign-first, print-first, tested, jumped, again, ranged, nexted, more-loops}
+use Rattle.coded.proofs.Steps.{last-word, has-at, assign-first, print-first, tested, jumped, again, ranged, nexted, more-loops}
 
 module _ (C : Case) where
   pub record Done (scope : List Text) (p : Program) (n e : ℕ) : Type 0 where
@@ -57,8 +57,8 @@ module _ (C : Case) where
       let f = suc m + size-program b in
       let small : f₀ < 65536 = omega (arith, h, C .small) in
       let G = fine-test C F in
-      let c = cut (C .words) n m₀ (flat e n) (word TEST 0 l₀ i) (flat-program a m₀ ++ (word JUMP 0 f₀ 0 ∷ (flat-program b l₀ ++ flat-program q f₀))) (omega (arith, length-flat e n)) x in
-      let d = cut (C .words) m₀ l₀ (flat-program a m₀) (word JUMP 0 f₀ 0) (flat-program b l₀ ++ flat-program q f₀) (omega (arith, length-program a m₀)) (c .1) in
+      let c = has-cut (C .words) n m₀ (flat e n) (word TEST 0 l₀ i) (flat-program a m₀ ++ (word JUMP 0 f₀ 0 ∷ (flat-program b l₀ ++ flat-program q f₀))) (omega (arith, length-flat e n)) x in
+      let d = has-cut (C .words) m₀ l₀ (flat-program a m₀) (word JUMP 0 f₀ 0) (flat-program b l₀ ++ flat-program q f₀) (omega (arith, length-program a m₀)) (c .1) in
       let T = tested C scope loops sh n B i l₀ e (F .scoped .0) (F .own .1) (F .rows .0) (F .rows .1 .0) (fitting-left (in-expression e) _ (F .fit)) (omega (arith, small)) (omega (arith, h)) (c .0) in
       let ha = has-append (C .words) m₀ (flat-program a m₀) _ (d .0) .0 in
       let A = program a scope (suc k) loops sh (T .after) (G .0) (has-at C a m₀ (suc k) (omega arith) ha) (omega (arith, h)) in
@@ -78,8 +78,8 @@ module _ (C : Case) where
       let m = suc k + size-program a in
       let small : l₀ < 65536 = omega (arith, h, C .small) in
       let G = fine-while C F in
-      let c = cut (C .words) n m₀ (flat e n) (word TEST 0 l₀ i) (flat-program a m₀ ++ (word AGAIN (n + size e - 1) m₀ 0 ∷ flat-program q l₀)) (omega (arith, length-flat e n)) x in
-      let d = cut (C .words) m₀ l₀ (flat-program a m₀) (word AGAIN (n + size e - 1) m₀ 0) (flat-program q l₀) (omega (arith, length-program a m₀)) (c .1) in
+      let c = has-cut (C .words) n m₀ (flat e n) (word TEST 0 l₀ i) (flat-program a m₀ ++ (word AGAIN (n + size e - 1) m₀ 0 ∷ flat-program q l₀)) (omega (arith, length-flat e n)) x in
+      let d = has-cut (C .words) m₀ l₀ (flat-program a m₀) (word AGAIN (n + size e - 1) m₀ 0) (flat-program q l₀) (omega (arith, length-program a m₀)) (c .1) in
       let T = tested C scope loops sh n B i l₀ e (F .scoped .0) (F .own .1) (F .rows .0) (F .rows .1 .0) (fitting-left (in-expression e) _ (F .fit)) small (omega (arith, h)) (c .0) in
       let ha = has-append (C .words) m₀ (flat-program a m₀) _ (d .0) .0 in
       let A = program a scope (suc k) loops sh (T .after) (G .0) (has-at C a m₀ (suc k) (omega arith) ha) (omega (arith, h)) in
@@ -99,8 +99,8 @@ module _ (C : Case) where
       let deep : length scope < 32 = F .nested .0 in
       let fr = F .scoped .0 in
       let ws = word BIND (number t) 0 0 ∷ flat e (n + 1) in
-      let c = cut (C .words) n m₀ ws (word RANGE (number t) l₀ i) (flat-program a m₀ ++ (word NEXT (number t) m₀ 0 ∷ flat-program q (l₀ + 1))) (omega (arith, length-flat e (n + 1))) x in
-      let d = cut (C .words) m₀ (l₀ + 1) (flat-program a m₀) (word NEXT (number t) m₀ 0) (flat-program q (l₀ + 1)) (omega (arith, length-program a m₀)) (c .1) in
+      let c = has-cut (C .words) n m₀ ws (word RANGE (number t) l₀ i) (flat-program a m₀ ++ (word NEXT (number t) m₀ 0 ∷ flat-program q (l₀ + 1))) (omega (arith, length-flat e (n + 1))) x in
+      let d = has-cut (C .words) m₀ (l₀ + 1) (flat-program a m₀) (word NEXT (number t) m₀ 0) (flat-program q (l₀ + 1)) (omega (arith, length-program a m₀)) (c .1) in
       let T = ranged C scope loops sh n B i l₀ t e fr (F .scoped .1 .0) (F .own .1) (F .own .2) (F .rows .0) (F .rows .1 .0) (fitting-left (in-expression e) _ (fit-tail (F .fit))) deep (omega (arith, small)) (omega (arith, h)) (c .0) in
       let ha = has-append (C .words) m₀ (flat-program a m₀) _ (d .0) .0 in
       let loops′ = more-loops C scope (t .text) loops (fr .1) in
