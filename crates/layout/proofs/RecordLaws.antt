@@ -14,16 +14,12 @@ use Rattle.definition.specs.Facts.{Relation}
 use Rattle.definition.specs.Accept.{Accepted, elements}
 use Rattle.definition.specs.Calls.{records-from, no-record, records}
 use Rattle.definition.specs.declared.Record.{Record}
+use Rattle.definition.proofs.RelationLaws.{length-records}
 use Rattle.parts.specs.Packed.{tag-of}
 use Rattle.facts.specs.Words.{relation-of}
 use Rattle.layout.specs.Sizes.{all-words}
 use Rattle.layout.specs.Records.{record-of}
 use Rattle.layout.proofs.SizeLaws.{few-words, all-next}
-
-length-records : (u f : ℕ) (rs : List Relation) → length (records-from u f rs) ≡ length rs
-unfolding records-from
-length-records u f [] = refl
-length-records u f (r ∷ rs) = ap suc (length-records u (f + table-words u (r .arity)) rs)
 
 module _ (facts query : Text) (u : ℕ) where
   -- the records of some relations, whose tables start at f
