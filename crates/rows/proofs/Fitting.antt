@@ -108,7 +108,7 @@ module _ (ts : List Token) (few : length ts < 65536) (words fr : List ℕ) (s N 
   closure-fits e n h b =
       rw (kind-word CLOSURE (n + size e - 1) 0 0 (omega arith), p-word CLOSURE (n + size e - 1) 0 0 (omega arith) (omega arith), count-free e n b) refl
 
-  -- the closures among an expression's words fit as its own do
+  -- the tests of an expression's words are the definition's tests of its closures
   abbrev pub Fitted : Expression → ℕ → Type 0
   Fitted e n = all-fit (at fr) (flat e n) n ≡ all-of two (closures e)
 

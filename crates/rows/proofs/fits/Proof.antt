@@ -14,7 +14,9 @@ count-requires c κs = search needs
 
 returns : tie.Need-returns
 unfolding fits
-returns c = fits-closure (at (c .before .before .before .before .args .fr .now)) _ (c .before .before .before .before .args .w) _ _ (c .count .ensures) (c .before .before .if1 .taken) (c .before .word-at .ensures)
+returns c =
+    let a = c .before .before .before .before .args in
+    fits-closure (at (a .fr .now)) _ (a .w) _ _ (c .count .ensures) (c .before .before .if1 .taken) (c .before .word-at .ensures)
 
 word-before-requires : tie.Need-word-before-requires
 word-before-requires c κs = search needs
@@ -24,7 +26,9 @@ count-requires-2 c κs = search needs
 
 returns-2 : tie.Need-returns-2
 unfolding fits
-returns-2 c = fits-rows (at (c .before .before .before .before .before .args .fr .now)) (c .before .before .before .before .before .args .j) (c .before .before .before .before .before .args .w) _ _ (c .count2 .ensures) (c .before .before .before .if1 .left) (c .before .before .if2 .taken) (c .before .word-before .ensures)
+returns-2 c =
+    let a = c .before .before .before .before .before .args in
+    fits-rows (at (a .fr .now)) (a .j) (a .w) _ _ (c .count2 .ensures) (c .before .before .before .if1 .left) (c .before .before .if2 .taken) (c .before .word-before .ensures)
 
 returns-3 : tie.Need-returns-3
 unfolding fits

@@ -12,13 +12,17 @@ count-requires : tie.Need-count-requires
 count-requires c κs = search needs
 
 returns : tie.Need-returns
-returns c = own-test (at (c .before .before .before .before .before .before .args .words .now)) (digit-at (c .before .before .before .before .before .before .args .f) (c .before .before .before .before .before .before .args .ids .now)) (at (c .before .before .before .before .before .before .args .fr .now)) (c .before .before .before .before .before .before .args .k) (c .before .before .before .before .before .before .args .w) _ (c .before .before .word-before .ensures) _ (c .count .ensures) (c .before .if1 .taken)
+returns c =
+    let a = c .before .before .before .before .before .before .args in
+    own-test (at (a .words .now)) (digit-at (a .f) (a .ids .now)) (at (a .fr .now)) (a .k) (a .w) _ (c .before .before .word-before .ensures) _ (c .count .ensures) (c .before .if1 .taken)
 
 count-requires-2 : tie.Need-count-requires-2
 count-requires-2 c κs = search needs
 
 returns-2 : tie.Need-returns-2
-returns-2 c = own-range (at (c .before .before .before .before .before .before .before .args .words .now)) (digit-at (c .before .before .before .before .before .before .before .args .f) (c .before .before .before .before .before .before .before .args .ids .now)) (at (c .before .before .before .before .before .before .before .args .fr .now)) (c .before .before .before .before .before .before .before .args .k) (c .before .before .before .before .before .before .before .args .w) _ (c .before .before .before .word-before .ensures) _ (c .count2 .ensures) (c .before .before .if1 .left) (c .before .if2 .taken)
+returns-2 c =
+    let a = c .before .before .before .before .before .before .before .args in
+    own-range (at (a .words .now)) (digit-at (a .f) (a .ids .now)) (at (a .fr .now)) (a .k) (a .w) _ (c .before .before .before .word-before .ensures) _ (c .count2 .ensures) (c .before .before .if1 .left) (c .before .if2 .taken)
 
 add-i : tie.Need-add-i
 add-i c = search needs
@@ -30,10 +34,14 @@ same-digits-requires : tie.Need-same-digits-requires
 same-digits-requires c κs = search needs
 
 returns-3 : tie.Need-returns-3
-returns-3 c = own-assign (at (c .before .before .before .before .before .before .before .before .before .args .words .now)) (digit-at (c .before .before .before .before .before .before .before .before .before .args .f) (c .before .before .before .before .before .before .before .before .before .args .ids .now)) (at (c .before .before .before .before .before .before .before .before .before .args .fr .now)) (c .before .before .before .before .before .before .before .before .before .args .k) (c .before .before .before .before .before .before .before .before .before .args .w) _ (c .before .before .before .before .before .word-before .ensures) _ _ (c .before .before .before .before .if1 .left) (c .before .before .before .if2 .left) (c .before .before .if3 .taken) (c .before .left .ensures .0) (c .same-digits .ensures)
+returns-3 c =
+    let a = c .before .before .before .before .before .before .before .before .before .args in
+    own-assign (at (a .words .now)) (digit-at (a .f) (a .ids .now)) (at (a .fr .now)) (a .k) (a .w) _ (c .before .before .before .before .before .word-before .ensures) _ _ (c .before .before .before .before .if1 .left) (c .before .before .before .if2 .left) (c .before .before .if3 .taken) (c .before .left .ensures .0) (c .same-digits .ensures)
 
 returns-4 : tie.Need-returns-4
-returns-4 c = own-other (at (c .before .before .before .before .before .before .before .args .words .now)) (digit-at (c .before .before .before .before .before .before .before .args .f) (c .before .before .before .before .before .before .before .args .ids .now)) (at (c .before .before .before .before .before .before .before .args .fr .now)) (c .before .before .before .before .before .before .before .args .k) (c .before .before .before .before .before .before .before .args .w) _ (c .before .before .before .word-before .ensures) (c .before .before .if1 .left) (c .before .if2 .left) (c .if3 .left)
+returns-4 c =
+    let a = c .before .before .before .before .before .before .before .args in
+    own-other (at (a .words .now)) (digit-at (a .f) (a .ids .now)) (at (a .fr .now)) (a .k) (a .w) _ (c .before .before .before .word-before .ensures) (c .before .before .if1 .left) (c .before .if2 .left) (c .if3 .left)
 
 pub own-fits-spec : {M : Type 1} → statement M
 own-fits-spec =

@@ -36,8 +36,9 @@ same-length c = omega arith
 
 returns : tie.Need-returns Inv-loop μ-loop
 returns c =
+    let a = c .before .before .before .before .before .before .before .before .before .before .before .before .before .args in
     let l = c .before .before .before .before .before .before .before .before .loop in
-    λ S p o e. stopped-at (c .before .before .before .before .before .before .before .before .before .before .before .before .before .args .words .now) (c .before .before .before .before .before .before .before .before .before .before .before .before .before .args .ids .now) (c .before .before .before .before .before .before .before .before .before .before .before .before .before .args .known .now) S (l .k) _ _ _ (c .before .t2 .given .1) (c .before .before .before .before .before .step .ensures .0 S _ (l .inv .4 S _ (all-parts (c .before .before .before .before .before .before .before .before .before .before .before .before .before .args .words .now) (c .before .before .before .before .before .before .before .before .before .before .before .before .before .args .ids .now) (c .before .before .before .before .before .before .before .before .before .before .before .before .before .args .known .now) S p o e)))
+    λ S p o e. stopped-at (a .words .now) (a .ids .now) (a .known .now) S (l .k) _ _ _ (c .before .t2 .given .1) (c .before .before .before .before .before .step .ensures .0 S _ (l .inv .4 S _ (all-parts (a .words .now) (a .ids .now) (a .known .now) S p o e)))
 
 add-k : tie.Need-add-k Inv-loop μ-loop
 add-k c = omega arith
@@ -47,12 +48,13 @@ loop-less c = omega arith
 
 loop-again : tie.Need-loop-again Inv-loop μ-loop
 loop-again c =
+    let a = c .before .before .before .before .before .before .before .before .before .before .before .before .before .args in
     let l = c .before .before .before .before .before .before .before .before .loop in (
       near-on (l .k) _ _ (c .before .t .given .1) (c .before .before .before .before .before .step .ensures .1 .1),
       omega arith,
       omega arith,
       c .before .before .before .before .before .step .ensures .1 .0,
-      λ S total q. went-on (c .before .before .before .before .before .before .before .before .before .before .before .before .before .args .words .now) (c .before .before .before .before .before .before .before .before .before .before .before .before .before .args .ids .now) (c .before .before .before .before .before .before .before .before .before .before .before .before .before .args .known .now) S (l .k) _ total _ (c .before .t .given .1) (c .before .before .before .before .before .step .ensures .0 S total (l .inv .4 S total q)),
+      λ S total q. went-on (a .words .now) (a .ids .now) (a .known .now) S (l .k) _ total _ (c .before .t .given .1) (c .before .before .before .before .before .step .ensures .0 S total (l .inv .4 S total q)),
     )
 
 same-length-2 : tie.Need-same-length-2 Inv-loop μ-loop
@@ -60,8 +62,9 @@ same-length-2 c = omega arith
 
 returns-2 : tie.Need-returns-2 Inv-loop μ-loop
 returns-2 c =
+    let a = c .before .before .before .before .before .before .args in
     let l = c .before .loop in
-    λ S p o e. rows-end (c .before .before .before .before .before .before .args .words .now) (c .before .before .before .before .before .before .args .ids .now) (c .before .before .before .before .before .before .args .known .now) S (l .s) (l .k) _ (c .loop-test .left) (l .inv .4 S _ (all-parts (c .before .before .before .before .before .before .args .words .now) (c .before .before .before .before .before .before .args .ids .now) (c .before .before .before .before .before .before .args .known .now) S p o e))
+    λ S p o e. rows-end (a .words .now) (a .ids .now) (a .known .now) S (l .s) (l .k) _ (c .loop-test .left) (l .inv .4 S _ (all-parts (a .words .now) (a .ids .now) (a .known .now) S p o e))
 
 pub program-rows-spec : {M : Type 1} → statement M
 program-rows-spec =

@@ -42,7 +42,9 @@ too-much-requires : tie.Need-too-much-requires
 too-much-requires c κs = search needs
 
 returns : tie.Need-returns
-returns c = ((λ S i us es right st. row-13 _ _ _ S (c .before .before .before .before .before .before .before .before .before .before .args .s) (c .before .before .before .before .before .before .before .before .before .before .args .k) i us es right (omega (arith, c .before .before .before .before .before .before .before .before .before .before .pre)) st _ (c .before .before .before .collect .ensures) _ (c .before .too-much .ensures) (c .if1 .taken)), c .before .before .before .before .before .before .before .before .before .before .pre .1)
+returns c =
+    let a = c .before .before .before .before .before .before .before .before .before .before .args in
+    ((λ S i us es right st. row-13 _ _ _ S (a .s) (a .k) i us es right (omega (arith, c .before .before .before .before .before .before .before .before .before .before .pre)) st _ (c .before .before .before .collect .ensures) _ (c .before .too-much .ensures) (c .if1 .taken)), c .before .before .before .before .before .before .before .before .before .before .pre .1)
 
 fill-requires : tie.Need-fill-requires
 fill-requires c κs = ((omega arith, (omega arith, not-over _ _ _ (c .before .before .too-much .ensures) (c .before .if1 .left))), c .before .before .before .before .before .before .before .before .before .before .before .pre .1)
@@ -66,7 +68,9 @@ same-length : tie.Need-same-length
 same-length c = search needs
 
 returns-2 : tie.Need-returns-2
-returns-2 c = ((λ S i us es right st. refused-words _ _ _ S (c .before .before .before .before .before .before .before .before .before .before .before .before .before .before .before .before .before .before .args .s) (c .before .before .before .before .before .before .before .before .before .before .before .before .before .before .before .before .before .before .args .k) i us es right (omega (arith, c .before .before .before .before .before .before .before .before .before .before .before .before .before .before .before .before .before .before .pre)) st _ (c .before .before .before .before .before .before .before .before .before .before .before .collect .ensures) _ (c .before .before .before .before .before .before .before .before .before .too-much .ensures) (c .before .before .before .before .before .before .before .before .if1 .left) (c .before .before .before .before .before .before .fill .last .1 .1 .1 .0) (c .before .before .before .before .before .before .fill .ensures .0) _ (c .before .all-fit .ensures) (not-true _ (c .if2 .taken))), c .before .before .before .before .before .before .fill .ensures .1)
+returns-2 c =
+    let a = c .before .before .before .before .before .before .before .before .before .before .before .before .before .before .before .before .before .before .args in
+    ((λ S i us es right st. refused-words _ _ _ S (a .s) (a .k) i us es right (omega (arith, c .before .before .before .before .before .before .before .before .before .before .before .before .before .before .before .before .before .before .pre)) st _ (c .before .before .before .before .before .before .before .before .before .before .before .collect .ensures) _ (c .before .before .before .before .before .before .before .before .before .too-much .ensures) (c .before .before .before .before .before .before .before .before .if1 .left) (c .before .before .before .before .before .before .fill .last .1 .1 .1 .0) (c .before .before .before .before .before .before .fill .ensures .0) _ (c .before .all-fit .ensures) (not-true _ (c .if2 .taken))), c .before .before .before .before .before .before .fill .ensures .1)
 
 own-fits-requires : tie.Need-own-fits-requires
 own-fits-requires c κs = not-over _ _ _ (c .before .before .before .before .before .before .before .before .before .before .too-much .ensures) (c .before .before .before .before .before .before .before .before .before .if1 .left)
@@ -75,13 +79,17 @@ same-length-2 : tie.Need-same-length-2
 same-length-2 c = search needs
 
 returns-3 : tie.Need-returns-3
-returns-3 c = ((λ S i us es right st. refused-own _ _ _ S (c .before .before .before .before .before .before .before .before .before .before .before .before .before .before .before .before .before .before .before .before .before .args .s) (c .before .before .before .before .before .before .before .before .before .before .before .before .before .before .before .before .before .before .before .before .before .args .k) i us es right (omega (arith, c .before .before .before .before .before .before .before .before .before .before .before .before .before .before .before .before .before .before .before .before .before .pre)) st _ (c .before .before .before .before .before .before .before .before .before .before .before .before .before .before .collect .ensures) _ (c .before .before .before .before .before .before .before .before .before .before .before .before .too-much .ensures) (c .before .before .before .before .before .before .before .before .before .before .before .if1 .left) (c .before .before .before .before .before .before .before .before .before .fill .last .1 .1 .1 .0) (c .before .before .before .before .before .before .before .before .before .fill .ensures .0) _ _ (c .before .before .before .before .all-fit .ensures) (not-false _ (c .before .before .before .if2 .left)) (c .before .own-fits .ensures) (not-true _ (c .if3 .taken))), c .before .before .before .before .before .before .before .before .before .fill .ensures .1)
+returns-3 c =
+    let a = c .before .before .before .before .before .before .before .before .before .before .before .before .before .before .before .before .before .before .before .before .before .args in
+    ((λ S i us es right st. refused-own _ _ _ S (a .s) (a .k) i us es right (omega (arith, c .before .before .before .before .before .before .before .before .before .before .before .before .before .before .before .before .before .before .before .before .before .pre)) st _ (c .before .before .before .before .before .before .before .before .before .before .before .before .before .before .collect .ensures) _ (c .before .before .before .before .before .before .before .before .before .before .before .before .too-much .ensures) (c .before .before .before .before .before .before .before .before .before .before .before .if1 .left) (c .before .before .before .before .before .before .before .before .before .fill .last .1 .1 .1 .0) (c .before .before .before .before .before .before .before .before .before .fill .ensures .0) _ _ (c .before .before .before .before .all-fit .ensures) (not-false _ (c .before .before .before .if2 .left)) (c .before .own-fits .ensures) (not-true _ (c .if3 .taken))), c .before .before .before .before .before .before .before .before .before .fill .ensures .1)
 
 same-length-3 : tie.Need-same-length-3
 same-length-3 c = search needs
 
 returns-4 : tie.Need-returns-4
-returns-4 c = ((λ S i us es right st. no-row _ _ _ S (c .before .before .before .before .before .before .before .before .before .before .before .before .before .before .before .before .before .before .before .before .before .args .s) (c .before .before .before .before .before .before .before .before .before .before .before .before .before .before .before .before .before .before .before .before .before .args .k) i us es right (omega (arith, c .before .before .before .before .before .before .before .before .before .before .before .before .before .before .before .before .before .before .before .before .before .pre)) st _ (c .before .before .before .before .before .before .before .before .before .before .before .before .before .before .collect .ensures) _ (c .before .before .before .before .before .before .before .before .before .before .before .before .too-much .ensures) (c .before .before .before .before .before .before .before .before .before .before .before .if1 .left) (c .before .before .before .before .before .before .before .before .before .fill .last .1 .1 .1 .0) (c .before .before .before .before .before .before .before .before .before .fill .ensures .0) _ _ (c .before .before .before .before .all-fit .ensures) (not-false _ (c .before .before .before .if2 .left)) (c .before .own-fits .ensures) (not-false _ (c .if3 .left))), c .before .before .before .before .before .before .before .before .before .fill .ensures .1)
+returns-4 c =
+    let a = c .before .before .before .before .before .before .before .before .before .before .before .before .before .before .before .before .before .before .before .before .before .args in
+    ((λ S i us es right st. no-row _ _ _ S (a .s) (a .k) i us es right (omega (arith, c .before .before .before .before .before .before .before .before .before .before .before .before .before .before .before .before .before .before .before .before .before .pre)) st _ (c .before .before .before .before .before .before .before .before .before .before .before .before .before .before .collect .ensures) _ (c .before .before .before .before .before .before .before .before .before .before .before .before .too-much .ensures) (c .before .before .before .before .before .before .before .before .before .before .before .if1 .left) (c .before .before .before .before .before .before .before .before .before .fill .last .1 .1 .1 .0) (c .before .before .before .before .before .before .before .before .before .fill .ensures .0) _ _ (c .before .before .before .before .all-fit .ensures) (not-false _ (c .before .before .before .if2 .left)) (c .before .own-fits .ensures) (not-false _ (c .if3 .left))), c .before .before .before .before .before .before .before .before .before .fill .ensures .1)
 
 pub statement-spec : {M : Type 1} → statement M
 statement-spec =

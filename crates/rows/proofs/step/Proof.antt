@@ -23,21 +23,24 @@ same-length : tie.Need-same-length
 same-length c = search needs
 
 returns : tie.Need-returns
-returns c = (
-  (λ S rest q. rw (c .after .ensures) (turn-own (c .before .before .before .before .before .before .before .before .before .before .before .before .args .words .now) (c .before .before .before .before .before .before .before .before .before .before .before .before .args .ids .now) (c .before .before .before .before .before .before .before .before .before .before .before .before .args .known .now) S (c .before .before .before .before .before .before .before .before .before .before .before .before .args .s) (c .before .before .before .before .before .before .before .before .before .before .before .before .args .k) (omega (arith, c .before .before .before .before .before .before .before .before .before .before .before .before .pre)) _ (c .before .before .before .before .before .before .ends .ensures) (c .before .before .before .statement .result) rest (c .before .before .before .before .before .if1 .taken) q (c .before .before .before .statement .ensures .0 S))),
-  (c .before .before .before .statement .ensures .1, rw (c .after .ensures) (near-next (c .before .before .before .statement .result) (c .before .before .before .before .before .before .before .before .before .before .before .before .args .k))),
-)
+returns c =
+    let a = c .before .before .before .before .before .before .before .before .before .before .before .before .args in (
+      (λ S rest q. rw (c .after .ensures) (turn-own (a .words .now) (a .ids .now) (a .known .now) S (a .s) (a .k) (omega (arith, c .before .before .before .before .before .before .before .before .before .before .before .before .pre)) _ (c .before .before .before .before .before .before .ends .ensures) (c .before .before .before .statement .result) rest (c .before .before .before .before .before .if1 .taken) q (c .before .before .before .statement .ensures .0 S))),
+      (c .before .before .before .statement .ensures .1, rw (c .after .ensures) (near-next (c .before .before .before .statement .result) (a .k))),
+    )
 
 add-t16 : tie.Need-add-t16
 add-t16 c = search needs
 
 returns-2 : tie.Need-returns-2
 returns-2 c =
-    ((λ S rest q. turn-between (c .before .before .before .before .before .before .before .before .args .words .now) (c .before .before .before .before .before .before .before .before .args .ids .now) (c .before .before .before .before .before .before .before .before .args .known .now) S (c .before .before .before .before .before .before .before .before .args .s) (c .before .before .before .before .before .before .before .before .args .k) (omega (arith, c .before .before .before .before .before .before .before .before .pre)) _ (c .before .before .ends .ensures) rest (c .before .if1 .left) (c .if2 .taken) q), (c .before .before .before .before .before .before .before .before .pre .1, omega arith))
+    let a = c .before .before .before .before .before .before .before .before .args in
+    ((λ S rest q. turn-between (a .words .now) (a .ids .now) (a .known .now) S (a .s) (a .k) (omega (arith, c .before .before .before .before .before .before .before .before .pre)) _ (c .before .before .ends .ensures) rest (c .before .if1 .left) (c .if2 .taken) q), (c .before .before .before .before .before .before .before .before .pre .1, omega arith))
 
 returns-3 : tie.Need-returns-3
 returns-3 c =
-    ((λ S rest q. turn-none (c .before .before .before .before .before .before .before .before .args .words .now) (c .before .before .before .before .before .before .before .before .args .ids .now) (c .before .before .before .before .before .before .before .before .args .known .now) S (c .before .before .before .before .before .before .before .before .args .s) (c .before .before .before .before .before .before .before .before .args .k) (omega (arith, c .before .before .before .before .before .before .before .before .pre)) _ (c .before .before .ends .ensures) rest (c .before .if1 .left) (c .if2 .left) q), (c .before .before .before .before .before .before .before .before .pre .1, omega arith))
+    let a = c .before .before .before .before .before .before .before .before .args in
+    ((λ S rest q. turn-none (a .words .now) (a .ids .now) (a .known .now) S (a .s) (a .k) (omega (arith, c .before .before .before .before .before .before .before .before .pre)) _ (c .before .before .ends .ensures) rest (c .before .if1 .left) (c .if2 .left) q), (c .before .before .before .before .before .before .before .before .pre .1, omega arith))
 
 pub step-spec : {M : Type 1} → statement M
 step-spec =
