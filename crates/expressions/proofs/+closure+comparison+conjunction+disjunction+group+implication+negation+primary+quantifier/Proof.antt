@@ -174,65 +174,23 @@ quantifier-with t = (attributes-reads.Asked, attributes-reads.Learnt, comparison
 closure-returns : (t : ℕ) → closure-lts.Need-returns (closure-with t) (closure-at t) closure.Post
 closure-returns t c = closure-deep _ _ _ _ _ (c .before .before .before .pre .1 .0) (c .if1 .taken)
 
-closure-add-kind-at : (t : ℕ) → closure-lts.Need-add-kind-at (closure-with t) (closure-at t) closure.Post
-closure-add-kind-at t c = omega arith
-
-closure-kind-at-requires : (t : ℕ) → closure-lts.Need-kind-at-requires (closure-with t) (closure-at t) closure.Post
-closure-kind-at-requires t c κs = search needs
-
-closure-add-t11 : (t : ℕ) → closure-lts.Need-add-t11 (closure-with t) (closure-at t) closure.Post
-closure-add-t11 t c = omega arith
-
 closure-returns-2 : (t : ℕ) → closure-lts.Need-returns-2 (closure-with t) (closure-at t) closure.Post
 closure-returns-2 t c = closure-open _ _ _ _ _ (c .before .before .before .before .before .pre .1 .0) (c .before .before .if1 .left) (λ e. c .if2 .taken (c .before .kind-at .ensures ∙ e))
-
-closure-add-comparison : (t : ℕ) → closure-lts.Need-add-comparison (closure-with t) (closure-at t) closure.Post
-closure-add-comparison t c = omega arith
-
-closure-add-comparison-2 : (t : ℕ) → closure-lts.Need-add-comparison-2 (closure-with t) (closure-at t) closure.Post
-closure-add-comparison-2 t c = omega arith
 
 closure-comparison-requires : (t : ℕ) → closure-lts.Need-comparison-requires (closure-with t) (closure-at t) closure.Post
 closure-comparison-requires t c κs = let l = kind-within (c .before .before .before .before .before .before .args .tokens .now) (c .before .before .before .before .before .before .args .p + 1) (omega arith) in omega arith
 
-closure-close-requires : (t : ℕ) → closure-lts.Need-close-requires (closure-with t) (closure-at t) closure.Post
-closure-close-requires t c κs = search needs
-
 closure-wrap-requires : (t : ℕ) → closure-lts.Need-wrap-requires (closure-with t) (closure-at t) closure.Post
 closure-wrap-requires t c κs = closed-room 21 (brackets-close (c .before .before .before .before .comparison .ensures) (c .before .close .ensures)) (omega arith) (omega arith) (omega arith) (omega arith)
-
-closure-same-length : (t : ℕ) → closure-lts.Need-same-length (closure-with t) (closure-at t) closure.Post
-closure-same-length t c = search needs
 
 closure-returns-3 : (t : ℕ) → closure-lts.Need-returns-3 (closure-with t) (closure-at t) closure.Post
 closure-returns-3 t c = closure-reads _ _ _ _ _ (c .before .before .before .before .before .before .before .before .before .before .before .before .before .before .pre .1 .0) (c .before .before .before .before .before .before .before .before .before .before .before .if1 .left) (sym (c .before .before .before .before .before .before .before .before .before .before .kind-at .ensures) ∙ c .before .before .before .before .before .before .before .before .before .if2 .left) (brackets-close (c .before .before .before .before .before .before .before .comparison .ensures) (c .before .before .before .before .close .ensures)) (c .before .before .wrap .ensures)
 
-comparison-implication-requires : (t : ℕ) → comparison-lts.Need-implication-requires (comparison-with t) (comparison-at t) comparison.Post
-comparison-implication-requires t c κs = omega arith
-
-comparison-enum-known-a : (t : ℕ) → comparison-lts.Need-enum-known-a (comparison-with t) (comparison-at t) comparison.Post
-comparison-enum-known-a t c = search needs
-
-comparison-enum-told : (t : ℕ) → comparison-lts.Need-enum-told (comparison-with t) (comparison-at t) comparison.Post
-comparison-enum-told t c = search needs
-
-comparison-same-length : (t : ℕ) → comparison-lts.Need-same-length (comparison-with t) (comparison-at t) comparison.Post
-comparison-same-length t c = search needs
-
 comparison-returns : (t : ℕ) → comparison-lts.Need-returns (comparison-with t) (comparison-at t) comparison.Post
 comparison-returns t c = tail-stops comparison-tail (c .before .before .before .before .implication .ensures) (c .enum-told .given .1)
 
-comparison-kind-at-requires : (t : ℕ) → comparison-lts.Need-kind-at-requires (comparison-with t) (comparison-at t) comparison.Post
-comparison-kind-at-requires t c κs = search needs
-
-comparison-same-length-2 : (t : ℕ) → comparison-lts.Need-same-length-2 (comparison-with t) (comparison-at t) comparison.Post
-comparison-same-length-2 t c = search needs
-
 comparison-returns-2 : (t : ℕ) → comparison-lts.Need-returns-2 (comparison-with t) (comparison-at t) comparison.Post
 comparison-returns-2 t c = no-sign-ends (c .before .before .before .a .given .1) (c .before .before .before .before .before .before .before .implication .ensures) (λ l h. omega (arith, c .before .kind-at .ensures, c .if1 .taken))
-
-comparison-same-length-3 : (t : ℕ) → comparison-lts.Need-same-length-3 (comparison-with t) (comparison-at t) comparison.Post
-comparison-same-length-3 t c = search needs
 
 comparison-returns-3 : (t : ℕ) → comparison-lts.Need-returns-3 (comparison-with t) (comparison-at t) comparison.Post
 comparison-returns-3 t c = no-sign-ends (c .before .before .before .before .a .given .1) (c .before .before .before .before .before .before .before .before .implication .ensures) (λ l h. omega (arith, c .before .before .kind-at .ensures, c .if2 .taken))
@@ -246,9 +204,6 @@ comparison-implication-requires-2 t c κs = let o = paid-of (c .before .before .
 comparison-join-requires : (t : ℕ) → comparison-lts.Need-join-requires (comparison-with t) (comparison-at t) comparison.Post
 comparison-join-requires t c κs = let o = paid-of (c .before .before .before .before .before .before .before .before .before .before .before .before .before .implication .ensures) (c .before .before .before .before .before .before .before .before .before .a .given .1) in let l = kind-within (c .before .before .before .before .before .before .before .before .before .before .before .before .before .before .before .before .before .args .tokens .now) (c .before .before .before .before .before .before .before .before .before .a .given .0 .0) (omega (arith, c .before .before .before .before .before .before .before .kind-at .ensures)) in join-room 22 _ (c .before .before .before .implication2 .ensures) (omega arith) (omega arith) (omega arith) (omega arith) (omega arith) (omega arith)
 
-comparison-same-length-4 : (t : ℕ) → comparison-lts.Need-same-length-4 (comparison-with t) (comparison-at t) comparison.Post
-comparison-same-length-4 t c = search needs
-
 comparison-returns-4 : (t : ℕ) → comparison-lts.Need-returns-4 (comparison-with t) (comparison-at t) comparison.Post
 comparison-returns-4 t c = sign-joins (c .before .before .before .before .before .before .before .before .before .before .before .before .a .given .1) (c .before .before .before .before .before .before .before .before .before .before .before .before .before .before .before .before .implication .ensures) (omega arith) (omega (arith, c .before .before .before .before .before .before .before .before .before .before .kind-at .ensures, c .before .before .before .before .before .before .before .before .before .if1 .left)) (omega (arith, c .before .before .before .before .before .before .before .before .before .before .kind-at .ensures, c .before .before .before .before .before .before .before .before .if2 .left)) (c .before .before .before .before .before .before .implication2 .ensures) (rw (c .before .before .before .before .before .before .before .before .before .before .kind-at .ensures) at (c .before .before .join .ensures))
 
@@ -258,26 +213,14 @@ conjunction-Inv-loop tokens words₀ p n d a₀ words a = (A : List ℕ) → Lin
 abbrev conjunction-μ-loop : conjunction-lts.MeasureT-loop
 conjunction-μ-loop tokens words₀ p n d a₀ words a = left tokens a
 
-conjunction-negation-requires : (t : ℕ) → conjunction-lts.Need-negation-requires (conjunction-with t) (conjunction-at t) conjunction.Post conjunction-Inv-loop conjunction-μ-loop
-conjunction-negation-requires t c κs = omega arith
-
 conjunction-loop-holds : (t : ℕ) → conjunction-lts.Need-loop-holds (conjunction-with t) (conjunction-at t) conjunction.Post conjunction-Inv-loop conjunction-μ-loop
 conjunction-loop-holds t c = λ A h. h
-
-conjunction-enum-known-a : (t : ℕ) → conjunction-lts.Need-enum-known-a (conjunction-with t) (conjunction-at t) conjunction.Post conjunction-Inv-loop conjunction-μ-loop
-conjunction-enum-known-a t c = search needs
-
-conjunction-enum-told : (t : ℕ) → conjunction-lts.Need-enum-told (conjunction-with t) (conjunction-at t) conjunction.Post conjunction-Inv-loop conjunction-μ-loop
-conjunction-enum-told t c = search needs
 
 conjunction-same-length : (t : ℕ) → conjunction-lts.Need-same-length (conjunction-with t) (conjunction-at t) conjunction.Post conjunction-Inv-loop conjunction-μ-loop
 conjunction-same-length t c = (c .before .before .loop .inv (c .before .before .before .before .before .before .before .before .before .args .words .now) (chain-starts and-chain (c .before .before .before .before .before .negation .ensures) (c .before .before .before .before .before .negation .kept .1 .0))) .long
 
 conjunction-returns : (t : ℕ) → conjunction-lts.Need-returns (conjunction-with t) (conjunction-at t) conjunction.Post conjunction-Inv-loop conjunction-μ-loop
 conjunction-returns t c = chain-stops and-chain (c .before .before .loop .inv (c .before .before .before .before .before .before .before .before .before .args .words .now) (chain-starts and-chain (c .before .before .before .before .before .negation .ensures) (c .before .before .before .before .before .negation .kept .1 .0))) (c .enum-told .given .1)
-
-conjunction-kind-at-requires : (t : ℕ) → conjunction-lts.Need-kind-at-requires (conjunction-with t) (conjunction-at t) conjunction.Post conjunction-Inv-loop conjunction-μ-loop
-conjunction-kind-at-requires t c κs = search needs
 
 conjunction-same-length-2 : (t : ℕ) → conjunction-lts.Need-same-length-2 (conjunction-with t) (conjunction-at t) conjunction.Post conjunction-Inv-loop conjunction-μ-loop
 conjunction-same-length-2 t c = (c .before .before .before .before .before .loop .inv (c .before .before .before .before .before .before .before .before .before .before .before .before .args .words .now) (chain-starts and-chain (c .before .before .before .before .before .before .before .before .negation .ensures) (c .before .before .before .before .before .before .before .before .negation .kept .1 .0))) .long
@@ -306,26 +249,14 @@ disjunction-Inv-loop tokens words₀ p n d a₀ words a = (A : List ℕ) → Lin
 abbrev disjunction-μ-loop : disjunction-lts.MeasureT-loop
 disjunction-μ-loop tokens words₀ p n d a₀ words a = left tokens a
 
-disjunction-conjunction-requires : (t : ℕ) → disjunction-lts.Need-conjunction-requires (disjunction-with t) (disjunction-at t) disjunction.Post disjunction-Inv-loop disjunction-μ-loop
-disjunction-conjunction-requires t c κs = omega arith
-
 disjunction-loop-holds : (t : ℕ) → disjunction-lts.Need-loop-holds (disjunction-with t) (disjunction-at t) disjunction.Post disjunction-Inv-loop disjunction-μ-loop
 disjunction-loop-holds t c = λ A h. h
-
-disjunction-enum-known-a : (t : ℕ) → disjunction-lts.Need-enum-known-a (disjunction-with t) (disjunction-at t) disjunction.Post disjunction-Inv-loop disjunction-μ-loop
-disjunction-enum-known-a t c = search needs
-
-disjunction-enum-told : (t : ℕ) → disjunction-lts.Need-enum-told (disjunction-with t) (disjunction-at t) disjunction.Post disjunction-Inv-loop disjunction-μ-loop
-disjunction-enum-told t c = search needs
 
 disjunction-same-length : (t : ℕ) → disjunction-lts.Need-same-length (disjunction-with t) (disjunction-at t) disjunction.Post disjunction-Inv-loop disjunction-μ-loop
 disjunction-same-length t c = (c .before .before .loop .inv (c .before .before .before .before .before .before .before .before .before .args .words .now) (chain-starts or-chain (c .before .before .before .before .before .conjunction .ensures) (c .before .before .before .before .before .conjunction .kept .1 .0))) .long
 
 disjunction-returns : (t : ℕ) → disjunction-lts.Need-returns (disjunction-with t) (disjunction-at t) disjunction.Post disjunction-Inv-loop disjunction-μ-loop
 disjunction-returns t c = chain-stops or-chain (c .before .before .loop .inv (c .before .before .before .before .before .before .before .before .before .args .words .now) (chain-starts or-chain (c .before .before .before .before .before .conjunction .ensures) (c .before .before .before .before .before .conjunction .kept .1 .0))) (c .enum-told .given .1)
-
-disjunction-kind-at-requires : (t : ℕ) → disjunction-lts.Need-kind-at-requires (disjunction-with t) (disjunction-at t) disjunction.Post disjunction-Inv-loop disjunction-μ-loop
-disjunction-kind-at-requires t c κs = search needs
 
 disjunction-same-length-2 : (t : ℕ) → disjunction-lts.Need-same-length-2 (disjunction-with t) (disjunction-at t) disjunction.Post disjunction-Inv-loop disjunction-μ-loop
 disjunction-same-length-2 t c = (c .before .before .before .before .before .loop .inv (c .before .before .before .before .before .before .before .before .before .before .before .before .args .words .now) (chain-starts or-chain (c .before .before .before .before .before .before .before .before .conjunction .ensures) (c .before .before .before .before .before .before .before .before .conjunction .kept .1 .0))) .long
@@ -351,41 +282,14 @@ disjunction-loop-again t c = λ A s. let h = c .before .before .before .before .
 group-returns : (t : ℕ) → group-lts.Need-returns (group-with t) (group-at t) group.Post
 group-returns t c = group-deep (c .if1 .taken) (c .before .before .before .pre .1 .0)
 
-group-add-comparison : (t : ℕ) → group-lts.Need-add-comparison (group-with t) (group-at t) group.Post
-group-add-comparison t c = omega arith
-
-group-add-comparison-2 : (t : ℕ) → group-lts.Need-add-comparison-2 (group-with t) (group-at t) group.Post
-group-add-comparison-2 t c = omega arith
-
 group-comparison-requires : (t : ℕ) → group-lts.Need-comparison-requires (group-with t) (group-at t) group.Post
 group-comparison-requires t c κs = let l = kind-within (c .before .before .before .before .args .tokens .now) (c .before .before .before .before .args .p) (omega arith) in omega arith
-
-group-close-requires : (t : ℕ) → group-lts.Need-close-requires (group-with t) (group-at t) group.Post
-group-close-requires t c κs = search needs
-
-group-same-length : (t : ℕ) → group-lts.Need-same-length (group-with t) (group-at t) group.Post
-group-same-length t c = search needs
 
 group-returns-2 : (t : ℕ) → group-lts.Need-returns-2 (group-with t) (group-at t) group.Post
 group-returns-2 t c = group-reads (c .before .before .before .before .before .if1 .left) (c .before .before .before .before .before .before .before .before .pre .1 .0) (brackets-close (c .before .before .before .comparison .ensures) (c .close .ensures))
 
-implication-disjunction-requires : (t : ℕ) → implication-lts.Need-disjunction-requires (implication-with t) (implication-at t) implication.Post
-implication-disjunction-requires t c κs = omega arith
-
-implication-enum-known-a : (t : ℕ) → implication-lts.Need-enum-known-a (implication-with t) (implication-at t) implication.Post
-implication-enum-known-a t c = search needs
-
-implication-enum-told : (t : ℕ) → implication-lts.Need-enum-told (implication-with t) (implication-at t) implication.Post
-implication-enum-told t c = search needs
-
-implication-same-length : (t : ℕ) → implication-lts.Need-same-length (implication-with t) (implication-at t) implication.Post
-implication-same-length t c = search needs
-
 implication-returns : (t : ℕ) → implication-lts.Need-returns (implication-with t) (implication-at t) implication.Post
 implication-returns t c = tail-stops consequent-tail (c .before .before .before .before .disjunction .ensures) (c .enum-told .given .1)
-
-implication-kind-at-requires : (t : ℕ) → implication-lts.Need-kind-at-requires (implication-with t) (implication-at t) implication.Post
-implication-kind-at-requires t c κs = search needs
 
 implication-add-disjunction : (t : ℕ) → implication-lts.Need-add-disjunction (implication-with t) (implication-at t) implication.Post
 implication-add-disjunction t c = let o = paid-of (c .before .before .before .before .before .before .before .before .disjunction .ensures) (c .before .before .before .before .a .given .1) in omega arith
@@ -405,32 +309,14 @@ implication-disjunction-requires-3 t c κs = let o = paid-of (c .before .before 
 implication-join-requires-2 : (t : ℕ) → implication-lts.Need-join-requires-2 (implication-with t) (implication-at t) implication.Post
 implication-join-requires-2 t c κs = let o = paid-of (c .before .before .before .before .before .before .before .before .before .before .before .before .disjunction .ensures) (c .before .before .before .before .before .before .before .before .a .given .1) in let l = kind-within (c .before .before .before .before .before .before .before .before .before .before .before .before .before .before .before .before .args .tokens .now) (c .before .before .before .before .before .before .before .before .a .given .0 .0) (omega (arith, c .before .before .before .before .before .before .kind-at .ensures, c .before .before .before .before .before .match2 .keys2)) in join-room 18 0 (c .before .before .before .disjunction3 .ensures) (omega arith) (omega arith) (omega arith) (omega arith) (omega arith) (omega arith)
 
-implication-same-length-2 : (t : ℕ) → implication-lts.Need-same-length-2 (implication-with t) (implication-at t) implication.Post
-implication-same-length-2 t c = search needs
-
 implication-returns-2 : (t : ℕ) → implication-lts.Need-returns-2 (implication-with t) (implication-at t) implication.Post
 implication-returns-2 t c = implies-joins (c .before .before .before .before .before .before .before .before .before .before .before .a .given .1) (c .before .before .before .before .before .before .before .before .before .before .before .before .before .before .before .disjunction .ensures) (omega arith) (sym (c .before .before .before .before .before .before .before .before .before .kind-at .ensures) ∙ c .before .before .before .before .before .before .before .before .match2 .keys1) (c .before .before .before .before .before .before .disjunction2 .ensures) (c .before .before .join .ensures)
-
-implication-same-length-3 : (t : ℕ) → implication-lts.Need-same-length-3 (implication-with t) (implication-at t) implication.Post
-implication-same-length-3 t c = search needs
 
 implication-returns-3 : (t : ℕ) → implication-lts.Need-returns-3 (implication-with t) (implication-at t) implication.Post
 implication-returns-3 t c = iff-joins (c .before .before .before .before .before .before .before .before .before .before .before .a .given .1) (c .before .before .before .before .before .before .before .before .before .before .before .before .before .before .before .disjunction .ensures) (omega arith) (sym (c .before .before .before .before .before .before .before .before .before .kind-at .ensures) ∙ c .before .before .before .before .before .before .before .before .match2 .keys2) (c .before .before .before .before .before .before .disjunction3 .ensures) (c .before .before .join2 .ensures)
 
-implication-same-length-4 : (t : ℕ) → implication-lts.Need-same-length-4 (implication-with t) (implication-at t) implication.Post
-implication-same-length-4 t c = search needs
-
 implication-returns-4 : (t : ℕ) → implication-lts.Need-returns-4 (implication-with t) (implication-at t) implication.Post
 implication-returns-4 t c = no-arrow-ends (c .before .before .before .a .given .1) (c .before .before .before .before .before .before .before .disjunction .ensures) (λ e. c .match2 .rest .0 .1 (c .before .kind-at .ensures ∙ e)) (λ e. c .match2 .rest .1 (c .before .kind-at .ensures ∙ e))
-
-negation-kind-at-requires : (t : ℕ) → negation-lts.Need-kind-at-requires (negation-with t) (negation-at t) negation.Post
-negation-kind-at-requires t c κs = search needs
-
-negation-primary-requires : (t : ℕ) → negation-lts.Need-primary-requires (negation-with t) (negation-at t) negation.Post
-negation-primary-requires t c κs = omega arith
-
-negation-same-length : (t : ℕ) → negation-lts.Need-same-length (negation-with t) (negation-at t) negation.Post
-negation-same-length t c = search needs
 
 negation-returns : (t : ℕ) → negation-lts.Need-returns (negation-with t) (negation-at t) negation.Post
 negation-returns t c = negation-plain (λ e. c .before .before .before .before .if1 .taken (c .before .before .before .before .before .kind-at .ensures ∙ e)) (c .before .before .primary .ensures)
@@ -438,26 +324,14 @@ negation-returns t c = negation-plain (λ e. c .before .before .before .before .
 negation-returns-2 : (t : ℕ) → negation-lts.Need-returns-2 (negation-with t) (negation-at t) negation.Post
 negation-returns-2 t c = negation-deep (kind-within (c .before .before .before .before .before .args .tokens .now) (c .before .before .before .before .before .args .p) (omega (arith, c .before .before .kind-at .ensures, c .before .if1 .left))) (c .if2 .taken) (sym (c .before .before .kind-at .ensures) ∙ c .before .if1 .left)
 
-negation-add-negation : (t : ℕ) → negation-lts.Need-add-negation (negation-with t) (negation-at t) negation.Post
-negation-add-negation t c = omega arith
-
-negation-add-negation-2 : (t : ℕ) → negation-lts.Need-add-negation-2 (negation-with t) (negation-at t) negation.Post
-negation-add-negation-2 t c = omega arith
-
 negation-negation-requires : (t : ℕ) → negation-lts.Need-negation-requires (negation-with t) (negation-at t) negation.Post
 negation-negation-requires t c κs = let l = kind-within (c .before .before .before .before .before .before .args .tokens .now) (c .before .before .before .before .before .before .args .p) (omega (arith, c .before .before .before .kind-at .ensures, c .before .before .if1 .left)) in omega arith
 
 negation-wrap-requires : (t : ℕ) → negation-lts.Need-wrap-requires (negation-with t) (negation-at t) negation.Post
 negation-wrap-requires t c κs = let l = kind-within (c .before .before .before .before .before .before .before .before .before .before .args .tokens .now) (c .before .before .before .before .before .before .before .before .before .before .args .p) (omega (arith, c .before .before .before .before .before .before .before .kind-at .ensures, c .before .before .before .before .before .before .if1 .left)) in wrap-room (c .before .before .before .before .before .before .before .before .before .before .args .tokens .now) (c .before .before .before .before .before .before .before .before .before .before .args .p + 1) (c .before .before .before .before .before .before .before .before .before .before .args .n) (length (c .before .before .before .negation .last .1 .0)) (c .before .before .before .negation .result) 14 (c .before .before .before .negation .ensures .bounds) (omega arith) (omega arith) (omega arith) (omega arith)
 
-negation-same-length-2 : (t : ℕ) → negation-lts.Need-same-length-2 (negation-with t) (negation-at t) negation.Post
-negation-same-length-2 t c = search needs
-
 negation-returns-3 : (t : ℕ) → negation-lts.Need-returns-3 (negation-with t) (negation-at t) negation.Post
 negation-returns-3 t c = negation-wraps (kind-within (c .before .before .before .before .before .before .before .before .before .before .before .before .before .args .tokens .now) (c .before .before .before .before .before .before .before .before .before .before .before .before .before .args .p) (omega (arith, c .before .before .before .before .before .before .before .before .before .before .kind-at .ensures, c .before .before .before .before .before .before .before .before .before .if1 .left))) (c .before .before .before .before .before .before .before .before .if2 .left) (sym (c .before .before .before .before .before .before .before .before .before .before .kind-at .ensures) ∙ c .before .before .before .before .before .before .before .before .before .if1 .left) (c .before .before .before .before .before .before .negation .ensures) (c .before .before .wrap .ensures)
-
-primary-kind-at-requires : (t : ℕ) → primary-lts.Need-kind-at-requires (primary-with t) (primary-at t) primary.Post
-primary-kind-at-requires t c κs = search needs
 
 primary-group-requires : (t : ℕ) → primary-lts.Need-group-requires (primary-with t) (primary-at t) primary.Post
 primary-group-requires t c κs = (omega arith, (sym (c .before .before .kind-at .ensures) ∙ c .before .match .keys1, omega arith))
@@ -474,32 +348,17 @@ primary-closure-requires t c κs = (omega arith, (closure-here _ _ (c .before .b
 primary-atom-requires : (t : ℕ) → primary-lts.Need-atom-requires (primary-with t) (primary-at t) primary.Post
 primary-atom-requires t c κs = (plain-here _ _ (c .before .before .before .kind-at .ensures) (c .before .before .match .rest .0 .0 .1) (c .before .before .match .rest .0 .1) (c .before .before .match .rest .1) (⊎-elim (λ w. inl (w .taken)) (λ w. inr (w .1 .left)) (c .before .if1 .came)), omega arith)
 
-primary-same-length : (t : ℕ) → primary-lts.Need-same-length (primary-with t) (primary-at t) primary.Post
-primary-same-length t c = search needs
-
 primary-returns : (t : ℕ) → primary-lts.Need-returns (primary-with t) (primary-at t) primary.Post
 primary-returns t c = c .before .before .group .ensures
-
-primary-same-length-2 : (t : ℕ) → primary-lts.Need-same-length-2 (primary-with t) (primary-at t) primary.Post
-primary-same-length-2 t c = search needs
 
 primary-returns-2 : (t : ℕ) → primary-lts.Need-returns-2 (primary-with t) (primary-at t) primary.Post
 primary-returns-2 t c = c .before .before .quantifier .ensures
 
-primary-same-length-3 : (t : ℕ) → primary-lts.Need-same-length-3 (primary-with t) (primary-at t) primary.Post
-primary-same-length-3 t c = search needs
-
 primary-returns-3 : (t : ℕ) → primary-lts.Need-returns-3 (primary-with t) (primary-at t) primary.Post
 primary-returns-3 t c = c .before .before .quantifier2 .ensures
 
-primary-same-length-4 : (t : ℕ) → primary-lts.Need-same-length-4 (primary-with t) (primary-at t) primary.Post
-primary-same-length-4 t c = search needs
-
 primary-returns-4 : (t : ℕ) → primary-lts.Need-returns-4 (primary-with t) (primary-at t) primary.Post
 primary-returns-4 t c = c .before .before .closure .ensures
-
-primary-same-length-5 : (t : ℕ) → primary-lts.Need-same-length-5 (primary-with t) (primary-at t) primary.Post
-primary-same-length-5 t c = search needs
 
 primary-returns-5 : (t : ℕ) → primary-lts.Need-returns-5 (primary-with t) (primary-at t) primary.Post
 primary-returns-5 t c = c .before .before .atom .ensures _ (omega arith)
@@ -507,38 +366,17 @@ primary-returns-5 t c = c .before .before .atom .ensures _ (omega arith)
 quantifier-returns : (t : ℕ) → quantifier-lts.Need-returns (quantifier-with t) (quantifier-at t) quantifier.Post
 quantifier-returns t c = quantifier-deep _ _ _ _ _ _ (c .before .before .before .pre .1 .0) (c .if1 .taken)
 
-quantifier-add-attributes : (t : ℕ) → quantifier-lts.Need-add-attributes (quantifier-with t) (quantifier-at t) quantifier.Post
-quantifier-add-attributes t c = omega arith
-
 quantifier-attributes-requires : (t : ℕ) → quantifier-lts.Need-attributes-requires (quantifier-with t) (quantifier-at t) quantifier.Post
 quantifier-attributes-requires t c κs = let l = quantifier-within (c .before .before .before .before .args .tokens .now) (c .before .before .before .before .args .p) (c .before .before .before .before .args .n) (c .before .before .before .before .args .d) (c .before .before .before .before .args .kind) (c .before .before .before .before .args .words .now) (c .before .before .before .before .pre .1 .0) in omega arith
-
-quantifier-enum-known-f : (t : ℕ) → quantifier-lts.Need-enum-known-f (quantifier-with t) (quantifier-at t) quantifier.Post
-quantifier-enum-known-f t c = search needs
-
-quantifier-enum-told : (t : ℕ) → quantifier-lts.Need-enum-told (quantifier-with t) (quantifier-at t) quantifier.Post
-quantifier-enum-told t c = search needs
-
-quantifier-same-length : (t : ℕ) → quantifier-lts.Need-same-length (quantifier-with t) (quantifier-at t) quantifier.Post
-quantifier-same-length t c = search needs
 
 quantifier-returns-2 : (t : ℕ) → quantifier-lts.Need-returns-2 (quantifier-with t) (quantifier-at t) quantifier.Post
 quantifier-returns-2 t c = quantifier-unbound _ _ _ _ _ _ (c .before .before .before .before .before .before .before .before .before .pre .1 .0) (c .before .before .before .before .before .before .if1 .left) (c .before .before .before .before .attributes .ensures) (c .enum-told .given .1)
 
-quantifier-add-comparison : (t : ℕ) → quantifier-lts.Need-add-comparison (quantifier-with t) (quantifier-at t) quantifier.Post
-quantifier-add-comparison t c = omega arith
-
 quantifier-comparison-requires : (t : ℕ) → quantifier-lts.Need-comparison-requires (quantifier-with t) (quantifier-at t) quantifier.Post
 quantifier-comparison-requires t c κs = let b = bound-of (c .before .before .before .before .before .before .attributes .ensures) (c .before .before .f .given .1) in omega arith
 
-quantifier-close-requires : (t : ℕ) → quantifier-lts.Need-close-requires (quantifier-with t) (quantifier-at t) quantifier.Post
-quantifier-close-requires t c κs = search needs
-
 quantifier-bind-requires : (t : ℕ) → quantifier-lts.Need-bind-requires (quantifier-with t) (quantifier-at t) quantifier.Post
 quantifier-bind-requires t c κs = let b = bound-of (c .before .before .before .before .before .before .before .before .before .before .before .attributes .ensures) (c .before .before .before .before .before .before .before .f .given .1) in bind-room ((quantifier-law (c .before .before .before .before .before .before .before .before .before .before .before .before .before .before .before .before .pre .1 .0)) .small) b (brackets-close (c .before .before .before .before .comparison .ensures) (c .before .close .ensures)) (omega arith) (omega arith) (omega arith)
-
-quantifier-same-length-2 : (t : ℕ) → quantifier-lts.Need-same-length-2 (quantifier-with t) (quantifier-at t) quantifier.Post
-quantifier-same-length-2 t c = search needs
 
 quantifier-returns-3 : (t : ℕ) → quantifier-lts.Need-returns-3 (quantifier-with t) (quantifier-at t) quantifier.Post
 quantifier-returns-3 t c = quantifier-reads _ _ _ _ _ _ (c .before .before .before .before .before .before .before .before .before .before .before .before .before .before .before .before .before .before .before .pre .1 .0) (c .before .before .before .before .before .before .before .before .before .before .before .before .before .before .before .before .if1 .left) (c .before .before .before .before .before .before .before .before .before .before .before .before .before .before .attributes .ensures) (c .before .before .before .before .before .before .before .before .before .before .f .given .1) (brackets-close (c .before .before .before .before .before .before .before .comparison .ensures) (c .before .before .before .before .close .ensures)) (c .before .before .bind .ensures)
@@ -560,47 +398,47 @@ pub +closure+comparison+conjunction+disjunction+group+implication+negation+prima
     (closure-at t)
     closure.Post
     (closure-returns t)
-    (closure-add-kind-at t)
-    (closure-kind-at-requires t)
-    (closure-add-t11 t)
+    (λ c. omega arith)
+    (λ c κs. search needs)
+    (λ c. omega arith)
     (closure-returns-2 t)
-    (closure-add-comparison t)
-    (closure-add-comparison-2 t)
+    (λ c. omega arith)
+    (λ c. omega arith)
     (closure-comparison-requires t)
-    (closure-close-requires t)
+    (λ c κs. search needs)
     (closure-wrap-requires t)
-    (closure-same-length t)
+    (λ c. search needs)
     (closure-returns-3 t))
     (λ t. comparison-lts.spec (comparison-with t)
     (comparison-at t)
     comparison.Post
-    (comparison-implication-requires t)
-    (comparison-enum-known-a t)
-    (comparison-enum-told t)
-    (comparison-same-length t)
+    (λ c κs. omega arith)
+    (λ c. search needs)
+    (λ c. search needs)
+    (λ c. search needs)
     (comparison-returns t)
-    (comparison-kind-at-requires t)
-    (comparison-same-length-2 t)
+    (λ c κs. search needs)
+    (λ c. search needs)
     (comparison-returns-2 t)
-    (comparison-same-length-3 t)
+    (λ c. search needs)
     (comparison-returns-3 t)
     (comparison-add-implication t)
     (comparison-implication-requires-2 t)
     (comparison-join-requires t)
-    (comparison-same-length-4 t)
+    (λ c. search needs)
     (comparison-returns-4 t))
     (λ t. conjunction-lts.spec (conjunction-with t)
     (conjunction-at t)
     conjunction.Post
     conjunction-Inv-loop
     conjunction-μ-loop
-    (conjunction-negation-requires t)
+    (λ c κs. omega arith)
     (conjunction-loop-holds t)
-    (conjunction-enum-known-a t)
-    (conjunction-enum-told t)
+    (λ c. search needs)
+    (λ c. search needs)
     (conjunction-same-length t)
     (conjunction-returns t)
-    (conjunction-kind-at-requires t)
+    (λ c κs. search needs)
     (conjunction-same-length-2 t)
     (conjunction-returns-2 t)
     (conjunction-add-negation t)
@@ -613,13 +451,13 @@ pub +closure+comparison+conjunction+disjunction+group+implication+negation+prima
     disjunction.Post
     disjunction-Inv-loop
     disjunction-μ-loop
-    (disjunction-conjunction-requires t)
+    (λ c κs. omega arith)
     (disjunction-loop-holds t)
-    (disjunction-enum-known-a t)
-    (disjunction-enum-told t)
+    (λ c. search needs)
+    (λ c. search needs)
     (disjunction-same-length t)
     (disjunction-returns t)
-    (disjunction-kind-at-requires t)
+    (λ c κs. search needs)
     (disjunction-same-length-2 t)
     (disjunction-returns-2 t)
     (disjunction-add-conjunction t)
@@ -631,79 +469,79 @@ pub +closure+comparison+conjunction+disjunction+group+implication+negation+prima
     (group-at t)
     group.Post
     (group-returns t)
-    (group-add-comparison t)
-    (group-add-comparison-2 t)
+    (λ c. omega arith)
+    (λ c. omega arith)
     (group-comparison-requires t)
-    (group-close-requires t)
-    (group-same-length t)
+    (λ c κs. search needs)
+    (λ c. search needs)
     (group-returns-2 t))
     (λ t. implication-lts.spec (implication-with t)
     (implication-at t)
     implication.Post
-    (implication-disjunction-requires t)
-    (implication-enum-known-a t)
-    (implication-enum-told t)
-    (implication-same-length t)
+    (λ c κs. omega arith)
+    (λ c. search needs)
+    (λ c. search needs)
+    (λ c. search needs)
     (implication-returns t)
-    (implication-kind-at-requires t)
+    (λ c κs. search needs)
     (implication-add-disjunction t)
     (implication-disjunction-requires-2 t)
     (implication-join-requires t)
     (implication-add-disjunction-2 t)
     (implication-disjunction-requires-3 t)
     (implication-join-requires-2 t)
-    (implication-same-length-2 t)
+    (λ c. search needs)
     (implication-returns-2 t)
-    (implication-same-length-3 t)
+    (λ c. search needs)
     (implication-returns-3 t)
-    (implication-same-length-4 t)
+    (λ c. search needs)
     (implication-returns-4 t))
     (λ t. negation-lts.spec (negation-with t)
     (negation-at t)
     negation.Post
-    (negation-kind-at-requires t)
-    (negation-primary-requires t)
-    (negation-same-length t)
+    (λ c κs. search needs)
+    (λ c κs. omega arith)
+    (λ c. search needs)
     (negation-returns t)
     (negation-returns-2 t)
-    (negation-add-negation t)
-    (negation-add-negation-2 t)
+    (λ c. omega arith)
+    (λ c. omega arith)
     (negation-negation-requires t)
     (negation-wrap-requires t)
-    (negation-same-length-2 t)
+    (λ c. search needs)
     (negation-returns-3 t))
     (λ t. primary-lts.spec (primary-with t)
     (primary-at t)
     primary.Post
-    (primary-kind-at-requires t)
+    (λ c κs. search needs)
     (primary-group-requires t)
     (primary-quantifier-requires t)
     (primary-quantifier-requires-2 t)
     (primary-closure-requires t)
     (primary-atom-requires t)
-    (primary-same-length t)
+    (λ c. search needs)
     (primary-returns t)
-    (primary-same-length-2 t)
+    (λ c. search needs)
     (primary-returns-2 t)
-    (primary-same-length-3 t)
+    (λ c. search needs)
     (primary-returns-3 t)
-    (primary-same-length-4 t)
+    (λ c. search needs)
     (primary-returns-4 t)
-    (primary-same-length-5 t)
+    (λ c. search needs)
     (primary-returns-5 t))
     λ t. quantifier-lts.spec (quantifier-with t)
     (quantifier-at t)
     quantifier.Post
     (quantifier-returns t)
-    (quantifier-add-attributes t)
+    (λ c. omega arith)
     (quantifier-attributes-requires t)
-    (quantifier-enum-known-f t)
-    (quantifier-enum-told t)
-    (quantifier-same-length t)
+    (λ c. search needs)
+    (λ c. search needs)
+    (λ c. search needs)
     (quantifier-returns-2 t)
-    (quantifier-add-comparison t)
+    (λ c. omega arith)
     (quantifier-comparison-requires t)
-    (quantifier-close-requires t)
+    (λ c κs. search needs)
     (quantifier-bind-requires t)
-    (quantifier-same-length-2 t)
+    (λ c. search needs)
     (quantifier-returns-3 t)

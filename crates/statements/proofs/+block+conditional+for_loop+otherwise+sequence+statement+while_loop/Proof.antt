@@ -142,47 +142,20 @@ statement-with t = (kind-at-reads.Asked, kind-at-reads.Learnt, block-below t, bl
 abbrev while-loop-with : ℕ → while-loop-lts.Claims
 while-loop-with t = (comparison-reads.Asked, comparison-reads.Learnt, block-below t, block.Post, repeated-reads.Asked, repeated-reads.Learnt)
 
-block-kind-at-requires : (t : ℕ) → block-lts.Need-kind-at-requires (block-with t) (block-at t) block.Post
-block-kind-at-requires t c κs = search needs
-
 block-returns : (t : ℕ) → block-lts.Need-returns (block-with t) (block-at t) block.Post
 block-returns t c = block-open (omega arith) (λ e. c .if1 .taken (c .before .kind-at .ensures ∙ e))
 
 block-returns-2 : (t : ℕ) → block-lts.Need-returns-2 (block-with t) (block-at t) block.Post
 block-returns-2 t c = block-deep (c .if2 .taken) (sym (c .before .before .kind-at .ensures) ∙ c .before .if1 .left)
 
-block-add-sequence : (t : ℕ) → block-lts.Need-add-sequence (block-with t) (block-at t) block.Post
-block-add-sequence t c = omega arith
-
-block-add-sequence-2 : (t : ℕ) → block-lts.Need-add-sequence-2 (block-with t) (block-at t) block.Post
-block-add-sequence-2 t c = omega arith
-
 block-sequence-requires : (t : ℕ) → block-lts.Need-sequence-requires (block-with t) (block-at t) block.Post
 block-sequence-requires t c κs = let l = kind-within (c .before .before .before .before .before .before .args .tokens .now) (c .before .before .before .before .before .before .args .p) (omega (arith, c .before .before .before .kind-at .ensures, c .before .before .if1 .left)) in (omega arith, (c .before .before .before .before .before .before .pre .1 .0, omega arith))
-
-block-close-block-requires : (t : ℕ) → block-lts.Need-close-block-requires (block-with t) (block-at t) block.Post
-block-close-block-requires t c κs = search needs
-
-block-same-length : (t : ℕ) → block-lts.Need-same-length (block-with t) (block-at t) block.Post
-block-same-length t c = search needs
 
 block-returns-3 : (t : ℕ) → block-lts.Need-returns-3 (block-with t) (block-at t) block.Post
 block-returns-3 t c = block-closes (c .before .before .before .before .before .if2 .left) (sym (c .before .before .before .before .before .before .before .kind-at .ensures) ∙ c .before .before .before .before .before .before .if1 .left) (c .before .before .before .sequence .ensures) (c .close-block .ensures)
 
-conditional-add-comparison : (t : ℕ) → conditional-lts.Need-add-comparison (conditional-with t) (conditional-at t) conditional.Post
-conditional-add-comparison t c = omega arith
-
 conditional-comparison-requires : (t : ℕ) → conditional-lts.Need-comparison-requires (conditional-with t) (conditional-at t) conditional.Post
 conditional-comparison-requires t c κs = let l = kind-within (c .before .before .before .args .tokens .now) (c .before .before .before .args .p) (omega (arith, c .before .before .before .pre .1 .0)) in omega arith
-
-conditional-enum-known-a : (t : ℕ) → conditional-lts.Need-enum-known-a (conditional-with t) (conditional-at t) conditional.Post
-conditional-enum-known-a t c = search needs
-
-conditional-enum-told : (t : ℕ) → conditional-lts.Need-enum-told (conditional-with t) (conditional-at t) conditional.Post
-conditional-enum-told t c = search needs
-
-conditional-same-length : (t : ℕ) → conditional-lts.Need-same-length (conditional-with t) (conditional-at t) conditional.Post
-conditional-same-length t c = search needs
 
 conditional-returns : (t : ℕ) → conditional-lts.Need-returns (conditional-with t) (conditional-at t) conditional.Post
 conditional-returns t c = test-refused (an-if _ _ _ (c .before .before .before .before .before .before .before .before .pre .1 .1 .1 .nest) (c .before .before .before .before .before .before .before .before .pre .1 .0)) (c .before .before .before .before .comparison .ensures) (c .enum-told .given .1)
@@ -192,15 +165,6 @@ conditional-add-block t c = let o = paid-of (c .before .before .before .before .
 
 conditional-block-requires : (t : ℕ) → conditional-lts.Need-block-requires (conditional-with t) (conditional-at t) conditional.Post
 conditional-block-requires t c κs = let o = paid-of (c .before .before .before .before .before .before .comparison .ensures) (c .before .before .a .given .1) in let l = kind-within (c .before .before .before .before .before .before .before .before .before .before .args .tokens .now) (c .before .before .before .before .before .before .before .before .before .before .args .p) (omega (arith, c .before .before .before .before .before .before .before .before .before .before .pre .1 .0)) in (omega arith, (c .before .before .before .before .before .before .before .before .before .before .pre .1 .1 .0, omega arith))
-
-conditional-enum-known-b : (t : ℕ) → conditional-lts.Need-enum-known-b (conditional-with t) (conditional-at t) conditional.Post
-conditional-enum-known-b t c = search needs
-
-conditional-enum-told-2 : (t : ℕ) → conditional-lts.Need-enum-told-2 (conditional-with t) (conditional-at t) conditional.Post
-conditional-enum-told-2 t c = search needs
-
-conditional-same-length-2 : (t : ℕ) → conditional-lts.Need-same-length-2 (conditional-with t) (conditional-at t) conditional.Post
-conditional-same-length-2 t c = search needs
 
 conditional-returns-2 : (t : ℕ) → conditional-lts.Need-returns-2 (conditional-with t) (conditional-at t) conditional.Post
 conditional-returns-2 t c = block-refused (an-if _ _ _ (c .before .before .before .before .before .before .before .before .before .before .before .before .before .before .before .pre .1 .1 .1 .nest) (c .before .before .before .before .before .before .before .before .before .before .before .before .before .before .before .pre .1 .0)) (c .before .before .before .before .before .before .before .before .before .before .before .comparison .ensures) (c .before .before .before .before .before .before .before .a .given .1) (c .before .before .before .before .block .ensures) (c .enum-told2 .given .1)
@@ -214,41 +178,17 @@ conditional-otherwise-requires t c κs = let o = paid-of (c .before .before .bef
 conditional-tested-requires : (t : ℕ) → conditional-lts.Need-tested-requires (conditional-with t) (conditional-at t) conditional.Post
 conditional-tested-requires t c κs = let o = paid-of (c .before .before .before .before .before .before .before .before .before .before .before .before .before .before .before .before .before .comparison .ensures) (c .before .before .before .before .before .before .before .before .before .before .before .before .before .a .given .1) in let o′ = block-span (c .before .before .before .before .before .before .before .before .before .before .block .ensures) (c .before .before .before .before .before .before .b .given .1) in let l = kind-within (c .before .before .before .before .before .before .before .before .before .before .before .before .before .before .before .before .before .before .before .before .before .args .tokens .now) (c .before .before .before .before .before .before .before .before .before .before .before .before .before .before .before .before .before .before .before .before .before .args .p) (omega (arith, c .before .before .before .before .before .before .before .before .before .before .before .before .before .before .before .before .before .before .before .before .before .pre .1 .0)) in tested-room (c .before .before .before .before .before .before .before .before .before .before .before .before .before .before .before .before .before .before .before .before .before .pre .1 .1 .0) l (omega arith) (omega arith) (omega (arith, c .before .before .before .before .before .before .before .before .before .before .before .before .before .before .before .before .before .before .before .before .before .pre .1 .1 .1 .used)) (o′ .within) (c .before .before .before .before .before .before .before .before .before .before .before .before .before .before .before .before .before .before .before .before .before .pre .1 .1 .1 .small) (omega (arith, c .before .before .before .before .before .before .before .before .before .before .before .before .before .before .before .before .before .before .before .before .before .pre .1 .1 .1 .room, c .before .before .before .otherwise .kept .1 .0, c .before .before .before .before .before .before .before .before .before .before .block .kept .1 .0, c .before .before .before .before .before .before .before .before .before .before .before .before .before .before .before .before .before .comparison .kept .1 .0)) (c .before .before .before .otherwise .ensures)
 
-conditional-same-length-3 : (t : ℕ) → conditional-lts.Need-same-length-3 (conditional-with t) (conditional-at t) conditional.Post
-conditional-same-length-3 t c = search needs
-
 conditional-returns-3 : (t : ℕ) → conditional-lts.Need-returns-3 (conditional-with t) (conditional-at t) conditional.Post
 conditional-returns-3 t c = if-ends (c .before .before .before .before .before .before .before .before .before .before .before .before .before .before .before .before .before .before .before .before .before .before .before .before .pre .1 .1 .1 .nest) (c .before .before .before .before .before .before .before .before .before .before .before .before .before .before .before .before .a .given .1) (c .before .before .before .before .before .before .before .before .before .before .before .before .before .before .before .before .before .before .before .before .before .before .before .before .pre .1 .0) (c .before .before .before .before .before .before .before .before .before .before .before .before .before .before .before .before .before .before .before .before .comparison .ensures) (c .before .before .before .before .before .before .before .before .before .before .before .before .before .block .ensures) (c .before .before .before .before .before .before .before .before .before .b .given .1) (c .before .before .before .before .before .before .otherwise .ensures) (c .before .before .tested .ensures)
 
 for-loop-heading-requires : (t : ℕ) → for-loop-lts.Need-heading-requires (for-loop-with t) (for-loop-at t) for-loop.Post
 for-loop-heading-requires t c κs = let l = kind-within (c .before .before .before .args .tokens .now) (c .before .before .before .args .p) (omega (arith, c .before .before .before .pre .1 .0)) in omega arith
 
-for-loop-add-t14 : (t : ℕ) → for-loop-lts.Need-add-t14 (for-loop-with t) (for-loop-at t) for-loop.Post
-for-loop-add-t14 t c = omega arith
-
-for-loop-same-length : (t : ℕ) → for-loop-lts.Need-same-length (for-loop-with t) (for-loop-at t) for-loop.Post
-for-loop-same-length t c = search needs
-
 for-loop-returns : (t : ℕ) → for-loop-lts.Need-returns (for-loop-with t) (for-loop-at t) for-loop.Post
 for-loop-returns t c = for-open (c .before .before .before .before .before .before .before .pre .1 .1 .1 .nest) (c .before .before .before .before .before .before .before .pre .1 .0) (c .before .before .before .heading .ensures) (c .if1 .taken)
 
-for-loop-add-comparison : (t : ℕ) → for-loop-lts.Need-add-comparison (for-loop-with t) (for-loop-at t) for-loop.Post
-for-loop-add-comparison t c = omega arith
-
-for-loop-add-comparison-2 : (t : ℕ) → for-loop-lts.Need-add-comparison-2 (for-loop-with t) (for-loop-at t) for-loop.Post
-for-loop-add-comparison-2 t c = omega arith
-
 for-loop-comparison-requires : (t : ℕ) → for-loop-lts.Need-comparison-requires (for-loop-with t) (for-loop-at t) for-loop.Post
 for-loop-comparison-requires t c κs = let u = heads (c .before .before .before .before .heading .ensures) (c .before .if1 .left) in let l = kind-within (c .before .before .before .before .before .before .before .before .args .tokens .now) (c .before .before .before .before .before .before .before .before .args .p + 2) (omega (arith, u .in′)) in omega arith
-
-for-loop-enum-known-a : (t : ℕ) → for-loop-lts.Need-enum-known-a (for-loop-with t) (for-loop-at t) for-loop.Post
-for-loop-enum-known-a t c = search needs
-
-for-loop-enum-told : (t : ℕ) → for-loop-lts.Need-enum-told (for-loop-with t) (for-loop-at t) for-loop.Post
-for-loop-enum-told t c = search needs
-
-for-loop-same-length-2 : (t : ℕ) → for-loop-lts.Need-same-length-2 (for-loop-with t) (for-loop-at t) for-loop.Post
-for-loop-same-length-2 t c = search needs
 
 for-loop-returns-2 : (t : ℕ) → for-loop-lts.Need-returns-2 (for-loop-with t) (for-loop-at t) for-loop.Post
 for-loop-returns-2 t c = let u = heads (c .before .before .before .before .before .before .before .before .before .heading .ensures) (c .before .before .before .before .before .before .if1 .left) in test-refused (a-for _ _ _ (c .before .before .before .before .before .before .before .before .before .before .before .before .before .pre .1 .1 .1 .nest) (c .before .before .before .before .before .before .before .before .before .before .before .before .before .pre .1 .0) (u .name) (u .in′)) (c .before .before .before .before .comparison .ensures) (c .enum-told .given .1)
@@ -262,26 +202,14 @@ for-loop-block-requires t c κs = let o = paid-of (c .before .before .before .be
 for-loop-ranged-requires : (t : ℕ) → for-loop-lts.Need-ranged-requires (for-loop-with t) (for-loop-at t) for-loop.Post
 for-loop-ranged-requires t c κs = let o = paid-of (c .before .before .before .before .before .before .before .before .before .before .comparison .ensures) (c .before .before .before .before .before .before .a .given .1) in let l = kind-within (c .before .before .before .before .before .before .before .before .before .before .before .before .before .before .before .before .before .before .before .args .tokens .now) (c .before .before .before .before .before .before .before .before .before .before .before .before .before .before .before .before .before .before .before .args .p) (omega (arith, c .before .before .before .before .before .before .before .before .before .before .before .before .before .before .before .before .before .before .before .pre .1 .0)) in loop-room (c .before .before .before .before .before .before .before .before .before .before .before .before .before .before .before .before .before .before .before .pre .1 .1 .0) l (omega arith) (omega arith) (omega arith) (omega arith) (c .before .before .before .block .ensures)
 
-for-loop-same-length-3 : (t : ℕ) → for-loop-lts.Need-same-length-3 (for-loop-with t) (for-loop-at t) for-loop.Post
-for-loop-same-length-3 t c = search needs
-
 for-loop-returns-3 : (t : ℕ) → for-loop-lts.Need-returns-3 (for-loop-with t) (for-loop-at t) for-loop.Post
 for-loop-returns-3 t c = for-ends (c .before .before .before .before .before .before .before .before .before .before .before .before .before .before .before .before .before .before .before .before .before .before .pre .1 .1 .1 .nest) (c .before .before .before .before .before .before .before .before .before .a .given .1) (c .before .before .before .before .before .before .before .before .before .before .before .before .before .before .before .before .before .before .before .before .before .before .pre .1 .0) (heads (c .before .before .before .before .before .before .before .before .before .before .before .before .before .before .before .before .before .before .heading .ensures) (c .before .before .before .before .before .before .before .before .before .before .before .before .before .before .before .if1 .left)) (c .before .before .before .before .before .before .before .before .before .before .before .before .before .comparison .ensures) (c .before .before .before .before .before .before .block .ensures) (c .before .before .ranged .ensures)
-
-otherwise-kind-at-requires : (t : ℕ) → otherwise-lts.Need-kind-at-requires (otherwise-with t) (otherwise-at t) otherwise.Post
-otherwise-kind-at-requires t c κs = search needs
 
 otherwise-returns : (t : ℕ) → otherwise-lts.Need-returns (otherwise-with t) (otherwise-at t) otherwise.Post
 otherwise-returns t c = else-none (omega arith) (λ e. c .if1 .taken (c .before .kind-at .ensures ∙ e))
 
-otherwise-add-block : (t : ℕ) → otherwise-lts.Need-add-block (otherwise-with t) (otherwise-at t) otherwise.Post
-otherwise-add-block t c = omega arith
-
 otherwise-block-requires : (t : ℕ) → otherwise-lts.Need-block-requires (otherwise-with t) (otherwise-at t) otherwise.Post
 otherwise-block-requires t c κs = let l = kind-within (c .before .before .before .before .before .args .tokens .now) (c .before .before .before .before .before .args .p) (omega (arith, c .before .before .kind-at .ensures, c .before .if1 .left)) in (omega arith, (c .before .before .before .before .before .pre .1 .0, omega arith))
-
-otherwise-same-length : (t : ℕ) → otherwise-lts.Need-same-length (otherwise-with t) (otherwise-at t) otherwise.Post
-otherwise-same-length t c = search needs
 
 otherwise-returns-2 : (t : ℕ) → otherwise-lts.Need-returns-2 (otherwise-with t) (otherwise-at t) otherwise.Post
 otherwise-returns-2 t c = else-some (c .before .before .before .before .before .before .before .before .pre .1 .1 .nest) (sym (c .before .before .before .before .before .kind-at .ensures) ∙ c .before .before .before .before .if1 .left) (c .before .before .block .ensures)
@@ -298,20 +226,11 @@ sequence-statement-requires t c κs = (omega arith, (c .before .before .before .
 sequence-loop-holds : (t : ℕ) → sequence-lts.Need-loop-holds (sequence-with t) (sequence-at t) sequence.Post sequence-Inv-loop sequence-μ-loop
 sequence-loop-holds t c = λ A h. h
 
-sequence-enum-known-a : (t : ℕ) → sequence-lts.Need-enum-known-a (sequence-with t) (sequence-at t) sequence.Post sequence-Inv-loop sequence-μ-loop
-sequence-enum-known-a t c = search needs
-
-sequence-enum-told : (t : ℕ) → sequence-lts.Need-enum-told (sequence-with t) (sequence-at t) sequence.Post sequence-Inv-loop sequence-μ-loop
-sequence-enum-told t c = search needs
-
 sequence-same-length : (t : ℕ) → sequence-lts.Need-same-length (sequence-with t) (sequence-at t) sequence.Post sequence-Inv-loop sequence-μ-loop
 sequence-same-length t c = let h = c .before .before .loop .inv (c .before .before .before .before .before .before .before .before .before .args .words .now) (sequence-starts (c .before .before .before .before .before .before .before .before .before .pre .1 .1 .nest) (c .before .before .before .before .before .before .before .before .before .pre .1 .1 .place) (c .before .before .before .before .before .statement .ensures) (c .before .before .before .before .before .statement .kept .1 .0)) in h .long
 
 sequence-returns : (t : ℕ) → sequence-lts.Need-returns (sequence-with t) (sequence-at t) sequence.Post sequence-Inv-loop sequence-μ-loop
 sequence-returns t c = let h = c .before .before .loop .inv (c .before .before .before .before .before .before .before .before .before .args .words .now) (sequence-starts (c .before .before .before .before .before .before .before .before .before .pre .1 .1 .nest) (c .before .before .before .before .before .before .before .before .before .pre .1 .1 .place) (c .before .before .before .before .before .statement .ensures) (c .before .before .before .before .before .statement .kept .1 .0)) in sequence-stops (c .before .before .before .before .before .before .before .before .before .pre .1 .1 .nest) h (c .enum-told .given .1)
-
-sequence-begins-requires : (t : ℕ) → sequence-lts.Need-begins-requires (sequence-with t) (sequence-at t) sequence.Post sequence-Inv-loop sequence-μ-loop
-sequence-begins-requires t c κs = search needs
 
 sequence-same-length-2 : (t : ℕ) → sequence-lts.Need-same-length-2 (sequence-with t) (sequence-at t) sequence.Post sequence-Inv-loop sequence-μ-loop
 sequence-same-length-2 t c = let h = c .before .before .before .before .before .loop .inv (c .before .before .before .before .before .before .before .before .before .before .before .before .args .words .now) (sequence-starts (c .before .before .before .before .before .before .before .before .before .before .before .before .pre .1 .1 .nest) (c .before .before .before .before .before .before .before .before .before .before .before .before .pre .1 .1 .place) (c .before .before .before .before .before .before .before .before .statement .ensures) (c .before .before .before .before .before .before .before .before .statement .kept .1 .0)) in h .long
@@ -327,9 +246,6 @@ sequence-loop-less t c = let h = c .before .before .before .before .before .befo
 
 sequence-loop-again : (t : ℕ) → sequence-lts.Need-loop-again (sequence-with t) (sequence-at t) sequence.Post sequence-Inv-loop sequence-μ-loop
 sequence-loop-again t c = λ A s. let h = c .before .before .before .before .before .before .before .before .before .loop .inv A s in sequence-on (c .before .before .before .before .before .before .before .before .before .before .before .before .before .before .before .before .pre .1 .1 .nest) h (c .before .before .before .before .before .before .before .a .given .1) (begins-so (c .before .before .before .before .before .begins .result) (c .before .before .before .before .if1 .left) (c .before .before .before .before .before .begins .ensures)) (c .before .before .statement2 .ensures) (c .before .before .statement2 .kept .1 .0 ∙ h .long)
-
-statement-kind-at-requires : (t : ℕ) → statement-lts.Need-kind-at-requires (statement-with t) (statement-at t) statement′.Post
-statement-kind-at-requires t c κs = search needs
 
 statement-block-requires : (t : ℕ) → statement-lts.Need-block-requires (statement-with t) (statement-at t) statement′.Post
 statement-block-requires t c κs = (omega arith, c .before .before .before .before .before .pre .1)
@@ -349,38 +265,20 @@ statement-while-loop-requires t c κs = (omega arith, ((sym (c .before .before .
 statement-assignment-requires : (t : ℕ) → statement-lts.Need-assignment-requires (statement-with t) (statement-at t) statement′.Post
 statement-assignment-requires t c κs = ((sym (c .before .before .kind-at .ensures) ∙ c .before .match .keys6), c .before .before .before .before .before .pre .1)
 
-statement-same-length : (t : ℕ) → statement-lts.Need-same-length (statement-with t) (statement-at t) statement′.Post
-statement-same-length t c = search needs
-
 statement-returns : (t : ℕ) → statement-lts.Need-returns (statement-with t) (statement-at t) statement′.Post
 statement-returns t c = nested (sym (c .before .before .before .before .before .kind-at .ensures) ∙ c .before .before .before .before .match .keys1) (c .before .before .block .ensures)
-
-statement-same-length-2 : (t : ℕ) → statement-lts.Need-same-length-2 (statement-with t) (statement-at t) statement′.Post
-statement-same-length-2 t c = search needs
 
 statement-returns-2 : (t : ℕ) → statement-lts.Need-returns-2 (statement-with t) (statement-at t) statement′.Post
 statement-returns-2 t c = c .before .before .for-loop .ensures
 
-statement-same-length-3 : (t : ℕ) → statement-lts.Need-same-length-3 (statement-with t) (statement-at t) statement′.Post
-statement-same-length-3 t c = search needs
-
 statement-returns-3 : (t : ℕ) → statement-lts.Need-returns-3 (statement-with t) (statement-at t) statement′.Post
 statement-returns-3 t c = c .before .before .conditional .ensures
-
-statement-same-length-4 : (t : ℕ) → statement-lts.Need-same-length-4 (statement-with t) (statement-at t) statement′.Post
-statement-same-length-4 t c = search needs
 
 statement-returns-4 : (t : ℕ) → statement-lts.Need-returns-4 (statement-with t) (statement-at t) statement′.Post
 statement-returns-4 t c = c .before .before .print .ensures
 
-statement-same-length-5 : (t : ℕ) → statement-lts.Need-same-length-5 (statement-with t) (statement-at t) statement′.Post
-statement-same-length-5 t c = search needs
-
 statement-returns-5 : (t : ℕ) → statement-lts.Need-returns-5 (statement-with t) (statement-at t) statement′.Post
 statement-returns-5 t c = c .before .before .while-loop .ensures
-
-statement-same-length-6 : (t : ℕ) → statement-lts.Need-same-length-6 (statement-with t) (statement-at t) statement′.Post
-statement-same-length-6 t c = search needs
 
 statement-returns-6 : (t : ℕ) → statement-lts.Need-returns-6 (statement-with t) (statement-at t) statement′.Post
 statement-returns-6 t c = c .before .before .assignment .ensures
@@ -388,20 +286,8 @@ statement-returns-6 t c = c .before .before .assignment .ensures
 statement-returns-7 : (t : ℕ) → statement-lts.Need-returns-7 (statement-with t) (statement-at t) statement′.Post
 statement-returns-7 t c = no-statement (omega arith) (record { no-name = λ e. c .match .rest .1 (c .before .kind-at .ensures ∙ e); no-if = λ e. c .match .rest .0 .0 .0 .1 (c .before .kind-at .ensures ∙ e); no-while = λ e. c .match .rest .0 .1 (c .before .kind-at .ensures ∙ e); no-for = λ e. c .match .rest .0 .0 .0 .0 .1 (c .before .kind-at .ensures ∙ e); no-brace = λ e. c .match .rest .0 .0 .0 .0 .0 .1 (c .before .kind-at .ensures ∙ e); no-print = λ e. c .match .rest .0 .0 .1 (c .before .kind-at .ensures ∙ e) })
 
-while-loop-add-comparison : (t : ℕ) → while-loop-lts.Need-add-comparison (while-loop-with t) (while-loop-at t) while-loop.Post
-while-loop-add-comparison t c = omega arith
-
 while-loop-comparison-requires : (t : ℕ) → while-loop-lts.Need-comparison-requires (while-loop-with t) (while-loop-at t) while-loop.Post
 while-loop-comparison-requires t c κs = let l = kind-within (c .before .before .before .args .tokens .now) (c .before .before .before .args .p) (omega (arith, c .before .before .before .pre .1 .0)) in omega arith
-
-while-loop-enum-known-a : (t : ℕ) → while-loop-lts.Need-enum-known-a (while-loop-with t) (while-loop-at t) while-loop.Post
-while-loop-enum-known-a t c = search needs
-
-while-loop-enum-told : (t : ℕ) → while-loop-lts.Need-enum-told (while-loop-with t) (while-loop-at t) while-loop.Post
-while-loop-enum-told t c = search needs
-
-while-loop-same-length : (t : ℕ) → while-loop-lts.Need-same-length (while-loop-with t) (while-loop-at t) while-loop.Post
-while-loop-same-length t c = search needs
 
 while-loop-returns : (t : ℕ) → while-loop-lts.Need-returns (while-loop-with t) (while-loop-at t) while-loop.Post
 while-loop-returns t c = test-refused (a-while _ _ _ (c .before .before .before .before .before .before .before .before .pre .1 .1 .1 .nest) (c .before .before .before .before .before .before .before .before .pre .1 .0)) (c .before .before .before .before .comparison .ensures) (c .enum-told .given .1)
@@ -414,9 +300,6 @@ while-loop-block-requires t c κs = let o = paid-of (c .before .before .before .
 
 while-loop-repeated-requires : (t : ℕ) → while-loop-lts.Need-repeated-requires (while-loop-with t) (while-loop-at t) while-loop.Post
 while-loop-repeated-requires t c κs = let o = paid-of (c .before .before .before .before .before .before .before .before .before .before .comparison .ensures) (c .before .before .before .before .before .before .a .given .1) in let l = kind-within (c .before .before .before .before .before .before .before .before .before .before .before .before .before .before .args .tokens .now) (c .before .before .before .before .before .before .before .before .before .before .before .before .before .before .args .p) (omega (arith, c .before .before .before .before .before .before .before .before .before .before .before .before .before .before .pre .1 .0)) in loop-room (c .before .before .before .before .before .before .before .before .before .before .before .before .before .before .pre .1 .1 .0) l (omega arith) (omega arith) (omega arith) (omega arith) (c .before .before .before .block .ensures)
-
-while-loop-same-length-2 : (t : ℕ) → while-loop-lts.Need-same-length-2 (while-loop-with t) (while-loop-at t) while-loop.Post
-while-loop-same-length-2 t c = search needs
 
 while-loop-returns-2 : (t : ℕ) → while-loop-lts.Need-returns-2 (while-loop-with t) (while-loop-at t) while-loop.Post
 while-loop-returns-2 t c = while-ends (c .before .before .before .before .before .before .before .before .before .before .before .before .before .before .before .before .before .pre .1 .1 .1 .nest) (c .before .before .before .before .before .before .before .before .before .a .given .1) (c .before .before .before .before .before .before .before .before .before .before .before .before .before .before .before .before .before .pre .1 .0) (c .before .before .before .before .before .before .before .before .before .before .before .before .before .comparison .ensures) (c .before .before .before .before .before .before .block .ensures) (c .before .before .repeated .ensures)
@@ -435,62 +318,62 @@ pub +block+conditional+for-loop+otherwise+sequence+statement+while-loop-spec :
     (λ t. block-lts.spec (block-with t)
     (block-at t)
     block.Post
-    (block-kind-at-requires t)
+    (λ c κs. search needs)
     (block-returns t)
     (block-returns-2 t)
-    (block-add-sequence t)
-    (block-add-sequence-2 t)
+    (λ c. omega arith)
+    (λ c. omega arith)
     (block-sequence-requires t)
-    (block-close-block-requires t)
-    (block-same-length t)
+    (λ c κs. search needs)
+    (λ c. search needs)
     (block-returns-3 t))
     (λ t. conditional-lts.spec (conditional-with t)
     (conditional-at t)
     conditional.Post
-    (conditional-add-comparison t)
+    (λ c. omega arith)
     (conditional-comparison-requires t)
-    (conditional-enum-known-a t)
-    (conditional-enum-told t)
-    (conditional-same-length t)
+    (λ c. search needs)
+    (λ c. search needs)
+    (λ c. search needs)
     (conditional-returns t)
     (conditional-add-block t)
     (conditional-block-requires t)
-    (conditional-enum-known-b t)
-    (conditional-enum-told-2 t)
-    (conditional-same-length-2 t)
+    (λ c. search needs)
+    (λ c. search needs)
+    (λ c. search needs)
     (conditional-returns-2 t)
     (conditional-add-otherwise t)
     (conditional-otherwise-requires t)
     (conditional-tested-requires t)
-    (conditional-same-length-3 t)
+    (λ c. search needs)
     (conditional-returns-3 t))
     (λ t. for-loop-lts.spec (for-loop-with t)
     (for-loop-at t)
     for-loop.Post
     (for-loop-heading-requires t)
-    (for-loop-add-t14 t)
-    (for-loop-same-length t)
+    (λ c. omega arith)
+    (λ c. search needs)
     (for-loop-returns t)
-    (for-loop-add-comparison t)
-    (for-loop-add-comparison-2 t)
+    (λ c. omega arith)
+    (λ c. omega arith)
     (for-loop-comparison-requires t)
-    (for-loop-enum-known-a t)
-    (for-loop-enum-told t)
-    (for-loop-same-length-2 t)
+    (λ c. search needs)
+    (λ c. search needs)
+    (λ c. search needs)
     (for-loop-returns-2 t)
     (for-loop-add-block t)
     (for-loop-block-requires t)
     (for-loop-ranged-requires t)
-    (for-loop-same-length-3 t)
+    (λ c. search needs)
     (for-loop-returns-3 t))
     (λ t. otherwise-lts.spec (otherwise-with t)
     (otherwise-at t)
     otherwise.Post
-    (otherwise-kind-at-requires t)
+    (λ c κs. search needs)
     (otherwise-returns t)
-    (otherwise-add-block t)
+    (λ c. omega arith)
     (otherwise-block-requires t)
-    (otherwise-same-length t)
+    (λ c. search needs)
     (otherwise-returns-2 t))
     (λ t. sequence-lts.spec (sequence-with t)
     (sequence-at t)
@@ -499,11 +382,11 @@ pub +block+conditional+for-loop+otherwise+sequence+statement+while-loop-spec :
     sequence-μ-loop
     (sequence-statement-requires t)
     (sequence-loop-holds t)
-    (sequence-enum-known-a t)
-    (sequence-enum-told t)
+    (λ c. search needs)
+    (λ c. search needs)
     (sequence-same-length t)
     (sequence-returns t)
-    (sequence-begins-requires t)
+    (λ c κs. search needs)
     (sequence-same-length-2 t)
     (sequence-returns-2 t)
     (sequence-statement-requires-2 t)
@@ -512,37 +395,37 @@ pub +block+conditional+for-loop+otherwise+sequence+statement+while-loop-spec :
     (λ t. statement-lts.spec (statement-with t)
     (statement-at t)
     statement′.Post
-    (statement-kind-at-requires t)
+    (λ c κs. search needs)
     (statement-block-requires t)
     (statement-for-loop-requires t)
     (statement-conditional-requires t)
     (statement-print-requires t)
     (statement-while-loop-requires t)
     (statement-assignment-requires t)
-    (statement-same-length t)
+    (λ c. search needs)
     (statement-returns t)
-    (statement-same-length-2 t)
+    (λ c. search needs)
     (statement-returns-2 t)
-    (statement-same-length-3 t)
+    (λ c. search needs)
     (statement-returns-3 t)
-    (statement-same-length-4 t)
+    (λ c. search needs)
     (statement-returns-4 t)
-    (statement-same-length-5 t)
+    (λ c. search needs)
     (statement-returns-5 t)
-    (statement-same-length-6 t)
+    (λ c. search needs)
     (statement-returns-6 t)
     (statement-returns-7 t))
     λ t. while-loop-lts.spec (while-loop-with t)
     (while-loop-at t)
     while-loop.Post
-    (while-loop-add-comparison t)
+    (λ c. omega arith)
     (while-loop-comparison-requires t)
-    (while-loop-enum-known-a t)
-    (while-loop-enum-told t)
-    (while-loop-same-length t)
+    (λ c. search needs)
+    (λ c. search needs)
+    (λ c. search needs)
     (while-loop-returns t)
     (while-loop-add-block t)
     (while-loop-block-requires t)
     (while-loop-repeated-requires t)
-    (while-loop-same-length-2 t)
+    (λ c. search needs)
     (while-loop-returns-2 t)
