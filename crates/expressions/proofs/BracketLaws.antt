@@ -6,27 +6,26 @@ use mathlib.Core.Path.{_≡_, refl, ap, sym, subst, _∙_}
 use native.Mathlib.Omega.{arith}
 use Prim.Native.Nat.{ℕ, zero, suc, _+_, _*_, _-_, _≤_, _<_}
 use lib.Dec.{eqb}
-use lib.ListN.{length, drop, set}
+use lib.ListN.{length, drop}
 use lib.Seq.{sets}
 use borrow.Author.Tests.{eqb-true, eqb-false}
 use Rattle.definition.proofs.GrammarReads.{Rule, Stands, Reads, Fails, read!, fail!, deep!, as!, as-fails!, _▸_, _▹_, stop!, done!, closed!, level, token!, no-token!, name!, no-name! }
 use Rattle.definition.proofs.GrammarExpressions.{group-rule, ex-rule, fa-rule, tc-rule, tcfast-rule, one-more!, one-more-fails!, body-rule, body-name-rule}
-use Rattle.definition.specs.Grammar.{Nonterminal, Tree, Expression, Primary, Quantified}
+use Rattle.definition.specs.Grammar.{Tree, Expression, Primary, Quantified}
 use Rattle.definition.specs.Grammar as Grammar
 use Rattle.definition.specs.Reader.{Symbol, Forest, phrase, fixed, identifier, level-end}
 use Rattle.definition.specs.Syntax as Syntax
 use Rattle.definition.specs.Syntax.{says, exists, for-all, closure-of}
-use Rattle.definition.specs.Text.{if_then_else_}
 use Rattle.definition.specs.Token.{Token, Terminal, token-at, key, name, LPAREN, RPAREN, COMMA, EX, FA, TC, TCFAST}
 use Rattle.expressions.proofs.OperatorLaws.{one-wrote}
-use Rattle.expressions.specs.Operators.{Wrapped, WrapRoom, closed, Names, no-more, one-more, attribute, Bound, Unbound, no-bracket, no-name, no-comma, bound, IsBound, binders, Binds, BindSpace, BindRoom, Quantifier, is-ex, is-fa, IsClosure, is-tc, is-tcfast}
+use Rattle.expressions.specs.Operators.{Wrapped, WrapRoom, Names, no-more, one-more, attribute, Bound, Unbound, no-bracket, no-name, no-comma, bound, IsBound, binders, Binds, BindRoom, Quantifier, is-ex, is-fa, IsClosure, is-tc, is-tcfast}
 use Rattle.lexer.specs.Tokens.{NAME}
 use Rattle.terms.proofs.AtomLaws.{refused}
-use Rattle.terms.proofs.TokenLaws.{kind-within, key-first, key-then, name-first, name-then, name-number, not-key, not-name}
+use Rattle.terms.proofs.TokenLaws.{kind-within, key-first, key-then, name-first, name-then, name-number, not-key, not-name, closed-cases}
 use Rattle.terms.proofs.WriteLaws.{wrote-then, wrote-as}
 use Rattle.terms.specs.declared.Answer.{Answer}
 use Rattle.terms.specs.declared.Answer.the-variants.{Read, Refused}
-use Rattle.terms.specs.Phrases.{kind-in, seen, Holds, Wrote, Got, Paid, far, Parsed, IsPrimary, IsExpression}
+use Rattle.terms.specs.Phrases.{kind-in, seen, closed, Holds, Wrote, IsPrimary, IsExpression}
 use Rattle.terms.specs.Terms.{Plain}
 use Rattle.words.proofs.Sizes.{length-flat}
 use Rattle.words.specs.Fields.{word, ATTRIBUTE, EXISTS, FOR-ALL, CLOSURE}
@@ -62,19 +61,16 @@ pub record InBrackets (ws : List ℕ) (p n d : ℕ) (A A′ : List ℕ) (b : Ans
   pub bounds : closed-far ws p n b
   pub at : (ts : List Token) → Holds ws ts → inside ws ts p n d A A′ b
 
-pub brackets-close : {ws : List ℕ} {p n d : ℕ} {A A′ : List ℕ} {a b : Answer} → IsExpression ws p n (d + 1) A A′ a → b ≡ closed ws a → InBrackets ws p n d A A′ b
+pub brackets-close : {ws : List ℕ} {p n d : ℕ} {A A′ : List ℕ} {a b : Answer} → IsExpression ws p n (d + 1) A A′ a → b ≡ closed ws RPAREN a → InBrackets ws p n d A A′ b
 brackets-close {ws} {p} {n} {d} {A} {A′} {a} {b} h e = subst (InBrackets ws p n d A A′) (sym e) (by a (let k : d + 1 ≡ suc d = omega arith in subst (λ d. IsExpression ws p n d A A′ a) k h))
   where
-    by : (a : Answer) → IsExpression ws p n (suc d) A A′ a → InBrackets ws p n d A A′ (closed ws a)
-    by (Read q m) h = at (eqb (kind-in ws q) RPAREN) refl
-      where
-        at : (c : Bool) → eqb (kind-in ws q) RPAREN ≡ c → InBrackets ws p n d A A′ (if c then (Read (q + 1) m) else (Refused 10 q))
-        at true c =
-            let e = eqb-true (kind-in ws q) RPAREN c in
-            let l = kind-within ws q (omega arith) in
-            let o = h .bounds in
-            record { bounds = record { more = o .more; paid = omega arith; within = omega arith }; at = λ ts g. let f = h .at ts g in record { tree = f .tree; at = q; reads = f .reads; bracket = key-first ws q e (omega arith); wrote = f .wrote } }
-        at false c = record { bounds = h .bounds .within; at = λ ts g. let f = h .at ts g in no-close (f .tree) (f .reads) (eqb-false (kind-in ws q) RPAREN c) }
+    by : (a : Answer) → IsExpression ws p n (suc d) A A′ a → InBrackets ws p n d A A′ (closed ws RPAREN a)
+    by (Read q m) h = closed-cases (InBrackets ws p n d A A′) ws RPAREN q m
+        (λ e. let l = kind-within ws q (omega arith) in let o = h .bounds in record {
+          bounds = record { more = o .more; paid = omega arith; within = omega arith };
+          at = λ ts g. let f = h .at ts g in record { tree = f .tree; at = q; reads = f .reads; bracket = key-first ws q e (omega arith); wrote = f .wrote };
+        })
+        (λ e. record { bounds = h .bounds .within; at = λ ts g. let f = h .at ts g in no-close (f .tree) (f .reads) e })
     by (Refused row q) h = record { bounds = h .bounds; at = λ ts g. body-fails (h .at ts g) }
 
 -- a group

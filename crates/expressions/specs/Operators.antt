@@ -2,11 +2,9 @@
 use mathlib.Core.List.{List, [], _∷_, map}
 use mathlib.Core.Path.{_≡_}
 use Prim.Native.Nat.{ℕ, zero, suc, _+_, _*_, _-_, _≤_, _<_}
-use lib.Dec.{eqb}
 use lib.ListN.{length, set}
 use lib.Seq.{sets}
-use Rattle.definition.specs.Text.{if_then_else_}
-use Rattle.definition.specs.Token.{LPAREN, RPAREN, COMMA, EX, FA, TC, TCFAST}
+use Rattle.definition.specs.Token.{LPAREN, COMMA, EX, FA, TC, TCFAST}
 use Rattle.lexer.specs.Tokens.{NAME}
 use Rattle.terms.specs.declared.Answer.{Answer}
 use Rattle.terms.specs.declared.Answer.the-variants.{Read, Refused}
@@ -37,11 +35,6 @@ WrapRoom M k (Refused row q) = Unit {0}
 abbrev pub Wrapped : ℕ → List ℕ → List ℕ → Answer → Answer → Type 0
 Wrapped k A A′ (Read q m) r = (r ≡ Read q (m + 1)) × (A′ ≡ set A m (word k (m - 1) 0 0))
 Wrapped k A A′ (Refused row q) r = r ≡ Refused row q
-
--- after the closing bracket
-abbrev pub closed : List ℕ → Answer → Answer
-closed ws (Read q m) = if eqb (kind-in ws q) RPAREN then (Read (q + 1) m) else (Refused 10 q)
-closed ws (Refused row q) = Refused row q
 
 -- from p up to q: names with a comma after each, by their tokens; at q there is no further one
 pub data Names (ws : List ℕ) : ℕ → ℕ → List ℕ → Type 0 where

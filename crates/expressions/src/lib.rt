@@ -2,10 +2,11 @@
 ghost use lib.ListN.{length};
 ghost use mathlib.Core.Path.{_≡_};
 ghost use Prim.Native.Nat.{_<_};
-ghost use Rattle.expressions.specs.Operators.{JoinRoom, Joined, WrapRoom, Wrapped, closed, IsBound, BindRoom, Binds, Quantifier, IsClosure};
+ghost use Rattle.expressions.specs.Operators.{JoinRoom, Joined, WrapRoom, Wrapped, IsBound, BindRoom, Binds, Quantifier, IsClosure};
 ghost use Rattle.terms.specs.Phrases.{kind-in, Room, IsExpression, IsImplication, IsDisjunction, IsConjunction, IsNegation, IsPrimary};
 use terms::Answer;
 use terms::atom;
+use terms::close;
 use terms::kind_at;
 use words::pack;
 
@@ -32,22 +33,6 @@ fn wrap(words: &mut [u64], kind: u64, a: Answer) -> Answer
         Answer::Read(q, m) => {
             words[m] = pack(kind, (m - 1) as u64, 0, 0);
             Answer::Read(q, m + 1)
-        }
-        Answer::Refused(row, q) => Answer::Refused(row, q),
-    }
-}
-
-// After a bracketed expression: its closing bracket.
-fn close(tokens: &[u64], a: Answer) -> Answer
-    ensures { λ r. ⌜ r ≡ closed (now (tokens .entry)) a ⌝ }
-{
-    match a {
-        Answer::Read(q, m) => {
-            if kind_at(tokens, q) == 1 {
-                Answer::Read(q + 1, m)
-            } else {
-                Answer::Refused(10, q)
-            }
         }
         Answer::Refused(row, q) => Answer::Refused(row, q),
     }
@@ -217,7 +202,7 @@ fn group(tokens: &[u64], words: &mut [u64], p: usize, n: usize, d: usize) -> Ans
         return Answer::Refused(13, p);
     }
     let a = comparison(tokens, words, p + 1, n, d + 1);
-    close(tokens, a)
+    close(tokens, 1, a)
 }
 
 fn quantifier(tokens: &[u64], words: &mut [u64], p: usize, n: usize, d: usize, kind: u64) -> Answer
@@ -232,7 +217,7 @@ fn quantifier(tokens: &[u64], words: &mut [u64], p: usize, n: usize, d: usize, k
         return f;
     };
     let a = comparison(tokens, words, q, m, d + 1);
-    let b = close(tokens, a);
+    let b = close(tokens, 1, a);
     bind(words, kind, n, m, b)
 }
 
@@ -247,6 +232,6 @@ fn closure(tokens: &[u64], words: &mut [u64], p: usize, n: usize, d: usize) -> A
         return Answer::Refused(10, p + 1);
     }
     let a = comparison(tokens, words, p + 2, n, d + 1);
-    let b = close(tokens, a);
+    let b = close(tokens, 1, a);
     wrap(words, 21, b)
 }

@@ -1,27 +1,23 @@
 -- Blocks and ELSE: a sequence of statements at a level of its own.
-use mathlib.Core.Bool.{Bool, true, false}
 use mathlib.Core.List.{List, [], _∷_, append-nil}
 use mathlib.Core.Path.{_≡_, refl, ap, sym, subst, _∙_}
 use native.Mathlib.Omega.{arith}
 use Prim.Native.Nat.{ℕ, suc, _+_, _≤_, _<_}
-use lib.Dec.{eqb}
 use lib.ListN.{length, drop}
-use borrow.Author.Tests.{eqb-true, eqb-false}
 use Rattle.definition.proofs.GrammarReads.{Stands, like-eq, act, read!, fail!, deep!, as!, as-fails!, _▸_, _▹_, stop!, done!, closed!, token!, no-token! }
 use Rattle.definition.proofs.GrammarStatements.{block-rule, no-block!, else-rule, no-else! }
 use Rattle.definition.specs.Grammar.{Tree, Statement, MoreStatements, Block}
 use Rattle.definition.specs.Grammar as Grammar
 use Rattle.definition.specs.Reader.{phrase, fixed, level-end, on-key, wrap}
 use Rattle.definition.specs.Syntax.{says, size, end}
-use Rattle.definition.specs.Text.{if_then_else_}
 use Rattle.definition.specs.Token.{Token, Terminal, key, LBRACE, RBRACE, ELSE}
 use Rattle.simple.specs.Statements.{IsStatement}
-use Rattle.statements.specs.Blocks.{IsSequence, IsBlock, IsElse, closed}
-use Rattle.terms.proofs.TokenLaws.{kind-within, key-first, not-key}
+use Rattle.statements.specs.Blocks.{IsSequence, IsBlock, IsElse}
+use Rattle.terms.proofs.TokenLaws.{kind-within, key-first, not-key, closed-cases}
 use Rattle.terms.proofs.WriteLaws.{wrote-none, wrote-as}
 use Rattle.terms.specs.declared.Answer.{Answer}
 use Rattle.terms.specs.declared.Answer.the-variants.{Read, Refused}
-use Rattle.terms.specs.Phrases.{kind-in, seen}
+use Rattle.terms.specs.Phrases.{kind-in, seen, closed}
 use Rattle.words.specs.Raw.{flat-program}
 
 -- what a block says
@@ -38,29 +34,23 @@ module _ {ws : List ℕ} {p n d : ℕ} {A : List ℕ} where
   pub block-deep : {B : List ℕ} → 32 ≤ d → kind-in ws p ≡ LBRACE → IsBlock ws p n d A B (Refused 13 p)
   block-deep l e = let i = kind-within ws p (omega arith) in record { bounds = omega arith; at = λ ts g. deep! block-rule (omega arith) (key-first ws p e (omega arith)) }
 
-  pub block-closes : {A₁ : List ℕ} {a r : Answer} → d < 32 → kind-in ws p ≡ LBRACE → IsSequence ws (p + 1) n (d + 1) A A₁ a → r ≡ closed ws a → IsBlock ws p n d A A₁ r
+  pub block-closes : {A₁ : List ℕ} {a r : Answer} → d < 32 → kind-in ws p ≡ LBRACE → IsSequence ws (p + 1) n (d + 1) A A₁ a → r ≡ closed ws RBRACE a → IsBlock ws p n d A A₁ r
   block-closes {A₁} {a} {r} l e h i = subst (IsBlock ws p n d A A₁) (sym i) (by a (let k : d + 1 ≡ suc d = omega arith in subst (λ d. IsSequence ws (p + 1) n d A A₁ a) k h))
     where
-      by : (a : Answer) → IsSequence ws (p + 1) n (suc d) A A₁ a → IsBlock ws p n d A A₁ (closed ws a)
-      by (Read q m) h = at (eqb (kind-in ws q) RBRACE) refl
-        where
-          at : (c : Bool) → eqb (kind-in ws q) RBRACE ≡ c → IsBlock ws p n d A A₁ (if c then (Read (q + 1) m) else (Refused 10 q))
-          at true c =
-              let f = eqb-true (kind-in ws q) RBRACE c in
-              let k = kind-within ws q (omega arith) in
-              let o = h .bounds in
-              record {
-                bounds = record { more = o .more; ahead = omega (arith, o .ahead); paid = omega (arith, o .paid); within = omega arith };
-                at = λ ts g. let s = h .at ts g in record {
-                  tree = Grammar.block (s .first) (s .rest);
-                  reads = read! block-rule (omega arith) (key-first ws p e (omega arith)) (s .one ▸ s .more ▸ token! (omega arith) (key-first ws q f (omega arith)) ▸ closed! ▸ done!);
-                  wrote = wrote-as (block-said ts (s .first) (s .rest) p n (s .at) (s .here)) (s .wrote);
-                };
-              }
-          at false c = record {
+      by : (a : Answer) → IsSequence ws (p + 1) n (suc d) A A₁ a → IsBlock ws p n d A A₁ (closed ws RBRACE a)
+      by (Read q m) h = closed-cases (IsBlock ws p n d A A₁) ws RBRACE q m
+          (λ f. let k = kind-within ws q (omega arith) in let o = h .bounds in record {
+            bounds = record { more = o .more; ahead = omega (arith, o .ahead); paid = omega (arith, o .paid); within = omega arith };
+            at = λ ts g. let s = h .at ts g in record {
+              tree = Grammar.block (s .first) (s .rest);
+              reads = read! block-rule (omega arith) (key-first ws p e (omega arith)) (s .one ▸ s .more ▸ token! (omega arith) (key-first ws q f (omega arith)) ▸ closed! ▸ done!);
+              wrote = wrote-as (block-said ts (s .first) (s .rest) p n (s .at) (s .here)) (s .wrote);
+            };
+          })
+          (λ f. record {
             bounds = h .bounds .within;
-            at = λ ts g. let s = h .at ts g in fail! block-rule (omega arith) (key-first ws p e (omega arith)) (s .one ▹ s .more ▹ stop! (no-token! (not-key ws q (eqb-false (kind-in ws q) RBRACE c))));
-          }
+            at = λ ts g. let s = h .at ts g in fail! block-rule (omega arith) (key-first ws p e (omega arith)) (s .one ▹ s .more ▹ stop! (no-token! (not-key ws q f)));
+          })
       by (Refused row q) h = record {
         bounds = h .bounds;
         at = λ ts g. fail! block-rule (omega arith) (key-first ws p e (omega arith)) (record { is = λ s k. h .at ts g .is (fixed RBRACE ∷ level-end ∷ s) (ap suc k) });

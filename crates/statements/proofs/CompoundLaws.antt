@@ -3,7 +3,7 @@ use mathlib.Core.List.{List, [], _∷_, _++_, append-nil}
 use mathlib.Core.Path.{_≡_, refl, ap, sym, subst, _∙_}
 use native.Mathlib.Omega.{arith}
 use Prim.Native.Nat.{ℕ, suc, _+_, _-_, _≤_, _<_}
-use lib.ListN.{length, drop, set, getD}
+use lib.ListN.{drop, set, getD}
 use Rattle.definition.proofs.GrammarReads.{Reads, Fails, read!, fail!, _▸_, _▹_, stop!, done!, token!, no-token!, name!, no-name! }
 use Rattle.definition.proofs.GrammarStatements.{conditional-rule, while-rule, for-rule}
 use Rattle.definition.specs.Grammar.{Tree, Statement, Block, Else, Expression}
@@ -15,9 +15,9 @@ use Rattle.definition.specs.Token.{Token, Terminal, token-at, IF, WHILE, FOR, I
 use Rattle.expressions.proofs.OperatorLaws.{paid-of, got-of}
 use Rattle.lexer.specs.Tokens.{at-of, NAME}
 use Rattle.simple.proofs.AssignLaws.{unstated}
-use Rattle.simple.specs.Statements.{Places, Span, spans, IsStatement}
+use Rattle.simple.specs.Statements.{Span, spans, IsStatement}
 use Rattle.statements.proofs.SequenceLaws.{read-size}
-use Rattle.statements.specs.Blocks.{IsBlock, IsElse, Headed, no-name, no-in, headed, Space, TestedRoom, Tested, LoopRoom, Repeated, Ranged}
+use Rattle.statements.specs.Blocks.{IsBlock, IsElse, Headed, no-name, no-in, headed, Tested, Repeated, Ranged}
 use Rattle.terms.proofs.TokenLaws.{kind-within, key-first, key-then, name-then, name-number, place-of, not-key, not-name}
 use Rattle.terms.proofs.WriteLaws.{wrote-one, wrote-then, wrote-next, wrote-before, wrote-as}
 use Rattle.terms.specs.declared.Answer.{Answer}
@@ -89,21 +89,6 @@ heads (no-name f) i = absurd (omega arith)
 heads (no-in f g) i = absurd (omega arith)
 heads (headed f g j) i = record { name = f; in′ = g; is = j }
 
--- room for the words over a block
-pub loop-room : {ws : List ℕ} {p m q d M : ℕ} {A A′ : List ℕ} {b : Answer} → Places ws → p < length ws → 0 < m → m + 1 ≤ q → length ws ≤ 2048 → length ws ≤ M → IsBlock ws q (m + 1) d A A′ b → LoopRoom ws M p m b
-loop-room {ws} {p} {m} {q} {d} {M} {A} {A′} {b} s i hm hq hl hM v = by b (v .bounds)
-  where
-    by : (b : Answer) → spans ws 0 (q + 2) (m + 1) b → LoopRoom ws M p m b
-    by (Read r l) o = record { places = s; inside = i; first = hm; order = omega (arith, o .more); room = omega (arith, o .paid, o .within); after = omega arith; small = omega (arith, o .paid, o .within); few = omega arith }
-    by (Refused row r) o = tt
-
-pub tested-room : {ws : List ℕ} {p m l r d M : ℕ} {A A′ : List ℕ} {c : Answer} → Places ws → p < length ws → 0 < m → m < l → l + 1 ≤ r → r ≤ length ws → length ws ≤ 2048 → length ws ≤ M → IsElse ws r (l + 1) d A A′ c → TestedRoom ws M p m l c
-tested-room {ws} {p} {m} {l} {r} {d} {M} {A} {A′} {c} s i hm ho hr hw hl hM v = by c (v .bounds)
-  where
-    by : (c : Answer) → spans ws 0 r (l + 1) c → TestedRoom ws M p m l c
-    by (Read q f) o = record { places = s; inside = i; first = hm; order = ho; room = omega arith; after = omega (arith, o .more); small = omega (arith, o .paid, o .within); few = omega arith }
-    by (Refused row q) o = tt
-
 -- the words of the three statements
 while-words : (e : Syntax.Expression) (b : Syntax.Program) (i n m l : ℕ) → m ≡ n + Raw.size e → l ≡ m + 1 + size-program b → flat e n ++ (word TEST 0 (l + 1) i ∷ (flat-program b (m + 1) ++ (word AGAIN (m - 1) (m + 1) 0 ∷ []))) ≡ flat-program (while i e b end) n
 unfolding flat-program
@@ -136,79 +121,59 @@ program-end : (b : Syntax.Program) (n : ℕ) {m : ℕ} {A A′ : List ℕ} → W
 program-end b n f = f .many ∙ ap (λ j. n + j) (length-program b n)
 
 module _ {ws : List ℕ} {p n d q m : ℕ} {A A₁ A₂ : List ℕ} {a b : Answer} (l : d ≤ 32) (i : a ≡ Read q m) where
-  pub while-ends : {A₃ : List ℕ} {r : Answer} → kind-in ws p ≡ WHILE → IsExpression ws (p + 1) n d A A₁ a → IsBlock ws q (m + 1) d A₁ A₂ b → Repeated ws p m A₂ A₃ b r → IsStatement ws p n d A A₃ r
-  while-ends {A₃} {r} e h v j = by b v j
-    where
-      inside : p < length ws
-      inside = kind-within ws p (omega arith)
+  pub while-ends : {s k : ℕ} {A₃ : List ℕ} → kind-in ws p ≡ WHILE → IsExpression ws (p + 1) n d A A₁ a → IsBlock ws q (m + 1) d A₁ A₂ b → b ≡ Read s k → Repeated ws p m k A₂ A₃ → IsStatement ws p n d A A₃ (Read s (k + 1))
+  while-ends {s} {k} e h v w j =
+      let o = paid-of h i in
+      let o′ = block-span v w in
+      let u = kind-within ws p (omega arith) in
+      record {
+        bounds = record { more = omega (arith, o .more, o′ .more); ahead = omega (arith, o .paid, o .more, o′ .ahead); paid = omega (arith, o .paid, o′ .paid); within = o′ .within };
+        at = λ ts g. let f = got-of h i ts g in let f′ = (block-of v w) .at ts g in record {
+          tree = Grammar.while-loop (f .tree) (f′ .tree);
+          reads = read! while-rule l (key-first ws p e (omega arith)) (f .reads ▸ f′ .reads ▸ done!);
+          wrote = subst (Wrote A n (flat-program (says ts (Grammar.while-loop (f .tree) (f′ .tree)) p end) n) (k + 1)) (sym j) (wrote-as (while-words (says ts (f .tree)) (says ts (f′ .tree) q) (at-of (getD ws p 0)) n m k (expression-end (says ts (f .tree)) n (f .wrote)) (program-end (says ts (f′ .tree) q) (m + 1) (f′ .wrote)) ∙ ap (λ x. flat-program (while x (says ts (f .tree)) (says ts (f′ .tree) q) end) n) (sym (place-of g p u)) ∙ while-said ts (f .tree) (f′ .tree) p n q (read-size ws (p + 1) q l (omega arith) (o .within) (f .reads))) (wrote-then (f .wrote) (wrote-before (wrote-next (f′ .wrote) (word AGAIN (m - 1) (m + 1) 0)) (word TEST 0 (k + 1) (at-of (getD ws p 0))))));
+        };
+      }
 
-      by : (b : Answer) → IsBlock ws q (m + 1) d A₁ A₂ b → Repeated ws p m A₂ A₃ b r → IsStatement ws p n d A A₃ r
-      by (Read q′ k) v j =
-          let o = paid-of h i in
-          let o′ = v .bounds in
-          let u = inside in
-          subst (IsStatement ws p n d A A₃) (sym (j .0)) (record {
-            bounds = record { more = omega (arith, o .more, o′ .more); ahead = omega (arith, o .paid, o .more, o′ .ahead); paid = omega (arith, o .paid, o′ .paid); within = o′ .within };
-            at = λ ts g. let f = got-of h i ts g in let f′ = v .at ts g in record {
-              tree = Grammar.while-loop (f .tree) (f′ .tree);
-              reads = read! while-rule l (key-first ws p e (omega arith)) (f .reads ▸ f′ .reads ▸ done!);
-              wrote = subst (Wrote A n (flat-program (says ts (Grammar.while-loop (f .tree) (f′ .tree)) p end) n) (k + 1)) (sym (j .1)) (wrote-as (while-words (says ts (f .tree)) (says ts (f′ .tree) q) (at-of (getD ws p 0)) n m k (expression-end (says ts (f .tree)) n (f .wrote)) (program-end (says ts (f′ .tree) q) (m + 1) (f′ .wrote)) ∙ ap (λ x. flat-program (while x (says ts (f .tree)) (says ts (f′ .tree) q) end) n) (sym (place-of g p inside)) ∙ while-said ts (f .tree) (f′ .tree) p n q (read-size ws (p + 1) q l (omega arith) (o .within) (f .reads))) (wrote-then (f .wrote) (wrote-before (wrote-next (f′ .wrote) (word AGAIN (m - 1) (m + 1) 0)) (word TEST 0 (k + 1) (at-of (getD ws p 0))))));
-            };
-          })
-      by (Refused row q′) v j = subst (IsStatement ws p n d A A₃) (sym j) (block-refused (a-while ws p d l e) h i v refl)
+  pub for-ends : {s k : ℕ} {B A₃ : List ℕ} → kind-in ws p ≡ FOR → Heads ws p n B A → IsExpression ws (p + 3) (n + 1) d A A₁ a → IsBlock ws q (m + 1) d A₁ A₂ b → b ≡ Read s k → Ranged ws p m k A₂ A₃ → IsStatement ws p n d B A₃ (Read s (k + 1))
+  for-ends {s} {k} {B} e t h v w j =
+      let o = paid-of h i in
+      let o′ = block-span v w in
+      let u = kind-within ws p (omega arith) in
+      let u′ = kind-within ws (p + 2) (omega (arith, t .in′)) in
+      record {
+        bounds = record { more = omega (arith, o .more, o′ .more); ahead = omega (arith, o .paid, o .more, o′ .ahead); paid = omega (arith, o .paid, o′ .paid); within = o′ .within };
+        at = λ ts g. let f = got-of h i ts g in let f′ = (block-of v w) .at ts g in record {
+          tree = Grammar.for-loop (p + 1) (f .tree) (f′ .tree);
+          reads = read! for-rule l (key-first ws p e (omega arith)) (variable ws p d l (t .name) ▸ its-set ws p d l (t .in′) ▸ f .reads ▸ f′ .reads ▸ done!);
+          wrote = subst (Wrote B n (flat-program (says ts (Grammar.for-loop (p + 1) (f .tree) (f′ .tree)) p end) n) (k + 1)) (sym j) (wrote-as (for-words (says ts (f .tree)) (says ts (f′ .tree) q) (token-at ts (p + 1)) (at-of (getD ws p 0)) (p + 1) n m k (name-number g (p + 1) (t .name)) (expression-end (says ts (f .tree)) (n + 1) (f .wrote)) (program-end (says ts (f′ .tree) q) (m + 1) (f′ .wrote)) ∙ ap (λ x. flat-program (for x (token-at ts (p + 1)) (says ts (f .tree)) (says ts (f′ .tree) q) end) n) (sym (place-of g p u)) ∙ for-said ts (f .tree) (f′ .tree) (p + 1) p n q (read-size ws (p + 3) q l (omega arith) (o .within) (f .reads))) (wrote-then (subst (Wrote B n (word BIND (p + 1) 0 0 ∷ []) (n + 1)) (sym (t .is)) (wrote-one B n (word BIND (p + 1) 0 0))) (wrote-then (f .wrote) (wrote-before (wrote-next (f′ .wrote) (word NEXT (p + 1) (m + 1) 0)) (word RANGE (p + 1) k (at-of (getD ws p 0)))))));
+        };
+      }
 
-  pub for-ends : {B A₃ : List ℕ} {r : Answer} → kind-in ws p ≡ FOR → Heads ws p n B A → IsExpression ws (p + 3) (n + 1) d A A₁ a → IsBlock ws q (m + 1) d A₁ A₂ b → Ranged ws p m A₂ A₃ b r → IsStatement ws p n d B A₃ r
-  for-ends {B} {A₃} {r} e t h v j = by b v j
-    where
-      inside : p < length ws
-      inside = kind-within ws p (omega arith)
+  module _ {s k : ℕ} {A₃ : List ℕ} {c : Answer} (e : kind-in ws p ≡ IF) (h : IsExpression ws (p + 1) n d A A₁ a) (v : IsBlock ws q (m + 1) d A₁ A₂ b) (w : b ≡ Read s k) (x : IsElse ws s (k + 1) d A₂ A₃ c) where
+    pub else-refused : {row r : ℕ} {B : List ℕ} → c ≡ Refused row r → IsStatement ws p n d A B c
+    else-refused {row} {r} {B} y = subst (IsStatement ws p n d A B) (sym y) (by (subst (IsElse ws s (k + 1) d A₂ A₃) y x))
+      where
+        by : IsElse ws s (k + 1) d A₂ A₃ (Refused row r) → IsStatement ws p n d A B (Refused row r)
+        by x = record { bounds = x .bounds; at = λ ts g. fail! conditional-rule l (key-first ws p e (omega arith)) ((got-of h i ts g) .reads ▹ ((block-of v w) .at ts g) .reads ▹ stop! (x .at ts g)) }
 
-      by : (b : Answer) → IsBlock ws q (m + 1) d A₁ A₂ b → Ranged ws p m A₂ A₃ b r → IsStatement ws p n d B A₃ r
-      by (Read q′ k) v j =
-          let o = paid-of h i in
-          let o′ = v .bounds in
-          let u = kind-within ws (p + 2) (omega (arith, t .in′)) in
-          subst (IsStatement ws p n d B A₃) (sym (j .0)) (record {
-            bounds = record { more = omega (arith, o .more, o′ .more); ahead = omega (arith, o .paid, o .more, o′ .ahead); paid = omega (arith, o .paid, o′ .paid); within = o′ .within };
-            at = λ ts g. let f = got-of h i ts g in let f′ = v .at ts g in record {
-              tree = Grammar.for-loop (p + 1) (f .tree) (f′ .tree);
-              reads = read! for-rule l (key-first ws p e (omega arith)) (variable ws p d l (t .name) ▸ its-set ws p d l (t .in′) ▸ f .reads ▸ f′ .reads ▸ done!);
-              wrote = subst (Wrote B n (flat-program (says ts (Grammar.for-loop (p + 1) (f .tree) (f′ .tree)) p end) n) (k + 1)) (sym (j .1)) (wrote-as (for-words (says ts (f .tree)) (says ts (f′ .tree) q) (token-at ts (p + 1)) (at-of (getD ws p 0)) (p + 1) n m k (name-number g (p + 1) (t .name)) (expression-end (says ts (f .tree)) (n + 1) (f .wrote)) (program-end (says ts (f′ .tree) q) (m + 1) (f′ .wrote)) ∙ ap (λ x. flat-program (for x (token-at ts (p + 1)) (says ts (f .tree)) (says ts (f′ .tree) q) end) n) (sym (place-of g p inside)) ∙ for-said ts (f .tree) (f′ .tree) (p + 1) p n q (read-size ws (p + 3) q l (omega arith) (o .within) (f .reads))) (wrote-then (subst (Wrote B n (word BIND (p + 1) 0 0 ∷ []) (n + 1)) (sym (t .is)) (wrote-one B n (word BIND (p + 1) 0 0))) (wrote-then (f .wrote) (wrote-before (wrote-next (f′ .wrote) (word NEXT (p + 1) (m + 1) 0)) (word RANGE (p + 1) k (at-of (getD ws p 0)))))));
-            };
-          })
-      by (Refused row q′) v j = subst (IsStatement ws p n d B A₃) (sym j) (block-refused (a-for ws p d l e (t .name) (t .in′)) h i v refl)
+    pub if-ends : {s′ k′ : ℕ} {A₄ : List ℕ} → c ≡ Read s′ k′ → Tested ws p m k k′ A₃ A₄ → IsStatement ws p n d A A₄ (Read s′ k′)
+    if-ends {s′} {k′} {A₄} y j = by (subst (IsElse ws s (k + 1) d A₂ A₃) y x)
+      where
+        by : IsElse ws s (k + 1) d A₂ A₃ (Read s′ k′) → IsStatement ws p n d A A₄ (Read s′ k′)
+        by x =
+            let o = paid-of h i in
+            let o′ = block-span v w in
+            let o″ = x .bounds in
+            let u = kind-within ws p (omega arith) in
+            record {
+              bounds = record { more = omega (arith, o .more, o′ .more, o″ .more); ahead = omega (arith, o .paid, o .more, o′ .ahead, o″ .ahead); paid = omega (arith, o .paid, o′ .paid, o″ .paid); within = o″ .within };
+              at = λ ts g. let f = got-of h i ts g in let f′ = (block-of v w) .at ts g in let f″ = x .at ts g in record {
+                tree = Grammar.conditional (f .tree) (f′ .tree) (f″ .tree);
+                reads = read! conditional-rule l (key-first ws p e (omega arith)) (f .reads ▸ f′ .reads ▸ f″ .reads ▸ done!);
+                wrote = subst (Wrote A n (flat-program (says ts (Grammar.conditional (f .tree) (f′ .tree) (f″ .tree)) p end) n) k′) (sym j) (wrote-as (test-words (says ts (f .tree)) (says ts (f′ .tree) q) (says ts (f″ .tree) s) (at-of (getD ws p 0)) n m k k′ (expression-end (says ts (f .tree)) n (f .wrote)) (program-end (says ts (f′ .tree) q) (m + 1) (f′ .wrote)) (program-end (says ts (f″ .tree) s) (k + 1) (f″ .wrote)) ∙ ap (λ x. flat-program (test x (says ts (f .tree)) (says ts (f′ .tree) q) (says ts (f″ .tree) s) end) n) (sym (place-of g p u)) ∙ test-said ts (f .tree) (f′ .tree) (f″ .tree) p n q s (read-size ws (p + 1) q l (omega arith) (o .within) (f .reads)) (read-size ws q s l (o .within) (o′ .within) (f′ .reads))) (wrote-then (f .wrote) (wrote-before (wrote-then (f′ .wrote) (wrote-before (f″ .wrote) (word JUMP 0 k′ 0))) (word TEST 0 (k + 1) (at-of (getD ws p 0))))));
+              };
+            }
 
-  pub if-ends : {s k : ℕ} {A₃ A₄ : List ℕ} {c r : Answer} → kind-in ws p ≡ IF → IsExpression ws (p + 1) n d A A₁ a → IsBlock ws q (m + 1) d A₁ A₂ b → b ≡ Read s k → IsElse ws s (k + 1) d A₂ A₃ c → Tested ws p m k A₃ A₄ c r → IsStatement ws p n d A A₄ r
-  if-ends {s} {k} {A₃} {A₄} {c} {r} e h v w x j = by c x j
-    where
-      inside : p < length ws
-      inside = kind-within ws p (omega arith)
-
-      by : (c : Answer) → IsElse ws s (k + 1) d A₂ A₃ c → Tested ws p m k A₃ A₄ c r → IsStatement ws p n d A A₄ r
-      by (Read s′ k′) x j =
-          let o = paid-of h i in
-          let o′ = block-span v w in
-          let o″ = x .bounds in
-          let u = inside in
-          subst (IsStatement ws p n d A A₄) (sym (j .0)) (record {
-            bounds = record { more = omega (arith, o .more, o′ .more, o″ .more); ahead = omega (arith, o .paid, o .more, o′ .ahead, o″ .ahead); paid = omega (arith, o .paid, o′ .paid, o″ .paid); within = o″ .within };
-            at = λ ts g. let f = got-of h i ts g in let f′ = (block-of v w) .at ts g in let f″ = x .at ts g in record {
-              tree = Grammar.conditional (f .tree) (f′ .tree) (f″ .tree);
-              reads = read! conditional-rule l (key-first ws p e (omega arith)) (f .reads ▸ f′ .reads ▸ f″ .reads ▸ done!);
-              wrote = subst (Wrote A n (flat-program (says ts (Grammar.conditional (f .tree) (f′ .tree) (f″ .tree)) p end) n) k′) (sym (j .1)) (wrote-as (test-words (says ts (f .tree)) (says ts (f′ .tree) q) (says ts (f″ .tree) s) (at-of (getD ws p 0)) n m k k′ (expression-end (says ts (f .tree)) n (f .wrote)) (program-end (says ts (f′ .tree) q) (m + 1) (f′ .wrote)) (program-end (says ts (f″ .tree) s) (k + 1) (f″ .wrote)) ∙ ap (λ x. flat-program (test x (says ts (f .tree)) (says ts (f′ .tree) q) (says ts (f″ .tree) s) end) n) (sym (place-of g p inside)) ∙ test-said ts (f .tree) (f′ .tree) (f″ .tree) p n q s (read-size ws (p + 1) q l (omega arith) (o .within) (f .reads)) (read-size ws q s l (o .within) (o′ .within) (f′ .reads))) (wrote-then (f .wrote) (wrote-before (wrote-then (f′ .wrote) (wrote-before (f″ .wrote) (word JUMP 0 k′ 0))) (word TEST 0 (k + 1) (at-of (getD ws p 0))))));
-            };
-          })
-      by (Refused row q′) x j = subst (IsStatement ws p n d A A₄) (sym j) (record {
-        bounds = x .bounds;
-        at = λ ts g. fail! conditional-rule l (key-first ws p e (omega arith)) ((got-of h i ts g) .reads ▹ ((block-of v w) .at ts g) .reads ▹ stop! (x .at ts g));
-      })
-
--- the two words over a block
-pub loop-space : {ws : List ℕ} {M p m q l : ℕ} {b : Answer} → LoopRoom ws M p m b → b ≡ Read q l → Space ws M p m l l
-loop-space {ws} {M} {p} {m} h e = subst (LoopRoom ws M p m) e h
-
-pub tested-space : {ws : List ℕ} {M p m l q f : ℕ} {c : Answer} → TestedRoom ws M p m l c → c ≡ Read q f → Space ws M p m l f
-tested-space {ws} {M} {p} {m} {l} h e = subst (TestedRoom ws M p m l) e h
-
-pub two-set : (A : List ℕ) (l m : ℕ) {w x v y : ℕ} → w ≡ x → v ≡ y → set (set A l w) m v ≡ set (set A l x) m y
-two-set A l m {x = x} {v = v} e f = ap (λ w. set (set A l w) m v) e ∙ ap (set (set A l x) m) f
+pub else-span : {ws : List ℕ} {p n d q m : ℕ} {A A′ : List ℕ} {c : Answer} → IsElse ws p n d A A′ c → c ≡ Read q m → Span ws 0 p n q m
+else-span {ws} {p} {n} h i = subst (spans ws 0 p n) i (h .bounds)

@@ -3,7 +3,6 @@ use mathlib.Core.Bool.{Bool, true, false}
 use mathlib.Core.List.{List, [], _∷_}
 use mathlib.Core.Path.{_≡_}
 use Prim.Native.Nat.{ℕ, _+_, _-_, _≤_, _<_}
-use lib.Dec.{eqb}
 use lib.ListN.{length, drop, set, getD}
 use Rattle.definition.proofs.GrammarReads.{Reads, Fails}
 use Rattle.definition.specs.Accept.{read-answer}
@@ -11,10 +10,9 @@ use Rattle.definition.specs.Answer as Answers
 use Rattle.definition.specs.Grammar.{Tree, Program, Statement, MoreStatements, Block, Else}
 use Rattle.definition.specs.Reader.{phrase, read-as, read-program}
 use Rattle.definition.specs.Syntax.{says, size}
-use Rattle.definition.specs.Text.{if_then_else_}
-use Rattle.definition.specs.Token.{Token, terminals, place-at, LBRACE, RBRACE, IF, WHILE, FOR, IN, PRINT}
+use Rattle.definition.specs.Token.{Token, terminals, place-at, LBRACE, IF, WHILE, FOR, IN, PRINT}
 use Rattle.lexer.specs.Tokens.{at-of, NAME}
-use Rattle.simple.specs.Statements.{Places, stated, spans, IsStated}
+use Rattle.simple.specs.Statements.{stated, spans, IsStated}
 use Rattle.terms.specs.declared.Answer.{Answer}
 use Rattle.terms.specs.declared.Answer.the-variants.{Read, Refused}
 use Rattle.terms.specs.Phrases.{kind-in, seen, Holds, Wrote}
@@ -68,11 +66,6 @@ pub record IsBlock (ws : List ℕ) (p n d : ℕ) (A A′ : List ℕ) (r : Answer
 abbrev pub IsElse : List ℕ → ℕ → ℕ → ℕ → List ℕ → List ℕ → Answer → Type 0
 IsElse = IsStated Else (λ ts t p n. flat-program (says ts t p) n) 0
 
--- after the closing brace
-abbrev pub closed : List ℕ → Answer → Answer
-closed ws (Read q m) = if eqb (kind-in ws q) RBRACE then (Read (q + 1) m) else (Refused 10 q)
-closed ws (Refused row q) = Refused row q
-
 -- after FOR at p: how many of the tokens up to the set are as they must be; if all, the variable stands at n
 pub data Headed (ws : List ℕ) (p n : ℕ) (A A′ : List ℕ) : ℕ → Type 0 where
   no-name : (kind-in ws (p + 1) ≡ NAME → ⊥) → Headed ws p n A A′ 1
@@ -81,7 +74,7 @@ pub data Headed (ws : List ℕ) (p n : ℕ) (A A′ : List ℕ) : ℕ → Type 0
 
 -- room for the words m and l over a block between them, and for their places, up to f
 pub record Space (ws : List ℕ) (M p m l f : ℕ) : Type 0 where
-  pub places : Places ws
+  pub mark : at-of (getD ws p 0) < 65536
   pub inside : p < length ws
   pub first : 0 < m
   pub order : m < l
@@ -90,27 +83,15 @@ pub record Space (ws : List ℕ) (M p m l f : ℕ) : Type 0 where
   pub small : f < 65535
   pub few : p < 65535
 
--- after the blocks of an IF, the second from l + 1 on
-abbrev pub TestedRoom : List ℕ → ℕ → ℕ → ℕ → ℕ → Answer → Type 0
-TestedRoom ws M p m l (Read q f) = Space ws M p m l f
-TestedRoom ws M p m l (Refused row q) = Unit {0}
+-- the two words of an IF, whose second block stands from l + 1 up to f, of a WHILE and of a FOR
+abbrev pub Tested : List ℕ → ℕ → ℕ → ℕ → ℕ → List ℕ → List ℕ → Type 0
+Tested ws p m l f A A′ = A′ ≡ set (set A l (word JUMP 0 f 0)) m (word TEST 0 (l + 1) (at-of (getD ws p 0)))
 
-abbrev pub Tested : List ℕ → ℕ → ℕ → ℕ → List ℕ → List ℕ → Answer → Answer → Type 0
-Tested ws p m l A A′ (Read q f) r = (r ≡ Read q f) × (A′ ≡ set (set A l (word JUMP 0 f 0)) m (word TEST 0 (l + 1) (at-of (getD ws p 0))))
-Tested ws p m l A A′ (Refused row q) r = r ≡ Refused row q
+abbrev pub Repeated : List ℕ → ℕ → ℕ → ℕ → List ℕ → List ℕ → Type 0
+Repeated ws p m l A A′ = A′ ≡ set (set A l (word AGAIN (m - 1) (m + 1) 0)) m (word TEST 0 (l + 1) (at-of (getD ws p 0)))
 
--- after the block of a WHILE or a FOR
-abbrev pub LoopRoom : List ℕ → ℕ → ℕ → ℕ → Answer → Type 0
-LoopRoom ws M p m (Read q l) = Space ws M p m l l
-LoopRoom ws M p m (Refused row q) = Unit {0}
-
-abbrev pub Repeated : List ℕ → ℕ → ℕ → List ℕ → List ℕ → Answer → Answer → Type 0
-Repeated ws p m A A′ (Read q l) r = (r ≡ Read q (l + 1)) × (A′ ≡ set (set A l (word AGAIN (m - 1) (m + 1) 0)) m (word TEST 0 (l + 1) (at-of (getD ws p 0))))
-Repeated ws p m A A′ (Refused row q) r = r ≡ Refused row q
-
-abbrev pub Ranged : List ℕ → ℕ → ℕ → List ℕ → List ℕ → Answer → Answer → Type 0
-Ranged ws p m A A′ (Read q l) r = (r ≡ Read q (l + 1)) × (A′ ≡ set (set A l (word NEXT (p + 1) (m + 1) 0)) m (word RANGE (p + 1) l (at-of (getD ws p 0))))
-Ranged ws p m A A′ (Refused row q) r = r ≡ Refused row q
+abbrev pub Ranged : List ℕ → ℕ → ℕ → ℕ → List ℕ → List ℕ → Type 0
+Ranged ws p m l A A′ = A′ ≡ set (set A l (word NEXT (p + 1) (m + 1) 0)) m (word RANGE (p + 1) l (at-of (getD ws p 0)))
 
 -- all tokens are the program that the definition's reader gives, and its words stand from 0 up to m
 pub record Whole (ws : List ℕ) (ts : List Token) (A A′ : List ℕ) (m : ℕ) : Type 0 where

@@ -4,13 +4,14 @@ ghost use lib.ListN.{length};
 ghost use mathlib.Core.Path.{_≡_};
 ghost use Prim.Native.Nat.{_+_, _<_, _≤_};
 ghost use Rattle.simple.specs.Statements.{Places, IsStatement};
-ghost use Rattle.statements.specs.Blocks.{Begins, IsSequence, IsBlock, IsElse, closed, Headed, TestedRoom, Tested, LoopRoom, Repeated, Ranged, IsProgram};
+ghost use Rattle.statements.specs.Blocks.{Begins, IsSequence, IsBlock, IsElse, Headed, Space, Tested, Repeated, Ranged, IsProgram};
 ghost use Rattle.terms.specs.Phrases.{kind-in, Room};
 use expressions::comparison;
 use simple::assignment;
 use simple::place;
 use simple::print;
 use terms::Answer;
+use terms::close;
 use terms::kind_at;
 use words::pack;
 
@@ -29,22 +30,6 @@ fn begins(tokens: &[u64], q: usize) -> bool
     }
 }
 
-// After the statements of a block: its closing brace.
-fn close_block(tokens: &[u64], a: Answer) -> Answer
-    ensures { λ r. ⌜ r ≡ closed (now (tokens .entry)) a ⌝ }
-{
-    match a {
-        Answer::Read(q, m) => {
-            if kind_at(tokens, q) == 3 {
-                Answer::Read(q + 1, m)
-            } else {
-                Answer::Refused(10, q)
-            }
-        }
-        Answer::Refused(row, q) => Answer::Refused(row, q),
-    }
-}
-
 // After FOR at p: its variable and IN. How many of the three tokens are right; if all are, the variable's word stands at n.
 fn heading(tokens: &[u64], words: &mut [u64], p: usize, n: usize) -> usize
     requires { ⌜ (p < 65535) × (n < length (now words)) ⌝ }
@@ -60,44 +45,32 @@ fn heading(tokens: &[u64], words: &mut [u64], p: usize, n: usize) -> usize
     3
 }
 
-// After the blocks of an IF at p: the jump at l over the second, and the test at m, which goes on behind l if it fails.
-fn tested(tokens: &[u64], words: &mut [u64], p: usize, m: usize, l: usize, c: Answer) -> Answer
-    requires { ⌜ TestedRoom (now tokens) (length (now words)) p m l c ⌝ }
-    ensures { λ r. ⌜ Tested (now (tokens .entry)) p m l (now (words .entry)) (now (words .exit)) c r ⌝ }
+// After the blocks of an IF at p, up to f: the jump at l over the second, and the test at m, which goes on behind l if it fails.
+fn tested(tokens: &[u64], words: &mut [u64], p: usize, m: usize, l: usize, f: usize)
+    requires { ⌜ Space (now tokens) (length (now words)) p m l f ⌝ }
+    ensures { λ _. ⌜ Tested (now (tokens .entry)) p m l f (now (words .entry)) (now (words .exit)) ⌝ }
 {
-    let Answer::Read(q, f) = c else {
-        return c;
-    };
     let other = l + 1;
     words[l] = pack(35, 0, f as u64, 0);
     words[m] = pack(34, 0, other as u64, place(tokens, p));
-    Answer::Read(q, f)
 }
 
-// After the block of a WHILE at p: the test again, and the test at m.
-fn repeated(tokens: &[u64], words: &mut [u64], p: usize, m: usize, b: Answer) -> Answer
-    requires { ⌜ LoopRoom (now tokens) (length (now words)) p m b ⌝ }
-    ensures { λ r. ⌜ Repeated (now (tokens .entry)) p m (now (words .entry)) (now (words .exit)) b r ⌝ }
+// After the block of a WHILE at p: the test again at l, and the test at m.
+fn repeated(tokens: &[u64], words: &mut [u64], p: usize, m: usize, l: usize)
+    requires { ⌜ Space (now tokens) (length (now words)) p m l l ⌝ }
+    ensures { λ _. ⌜ Repeated (now (tokens .entry)) p m l (now (words .entry)) (now (words .exit)) ⌝ }
 {
-    let Answer::Read(q, l) = b else {
-        return b;
-    };
     words[l] = pack(36, (m - 1) as u64, (m + 1) as u64, 0);
     words[m] = pack(34, 0, (l + 1) as u64, place(tokens, p));
-    Answer::Read(q, l + 1)
 }
 
-// After the block of a FOR at p: its next element, and its set at m.
-fn ranged(tokens: &[u64], words: &mut [u64], p: usize, m: usize, b: Answer) -> Answer
-    requires { ⌜ LoopRoom (now tokens) (length (now words)) p m b ⌝ }
-    ensures { λ r. ⌜ Ranged (now (tokens .entry)) p m (now (words .entry)) (now (words .exit)) b r ⌝ }
+// After the block of a FOR at p: its next element at l, and its set at m.
+fn ranged(tokens: &[u64], words: &mut [u64], p: usize, m: usize, l: usize)
+    requires { ⌜ Space (now tokens) (length (now words)) p m l l ⌝ }
+    ensures { λ _. ⌜ Ranged (now (tokens .entry)) p m l (now (words .entry)) (now (words .exit)) ⌝ }
 {
-    let Answer::Read(q, l) = b else {
-        return b;
-    };
     words[l] = pack(7, (p + 1) as u64, (m + 1) as u64, 0);
     words[m] = pack(6, (p + 1) as u64, l as u64, place(tokens, p));
-    Answer::Read(q, l + 1)
 }
 
 fn statement(tokens: &[u64], words: &mut [u64], p: usize, n: usize, d: usize) -> Answer
@@ -143,7 +116,7 @@ fn block(tokens: &[u64], words: &mut [u64], p: usize, n: usize, d: usize) -> Ans
         return Answer::Refused(13, p);
     }
     let a = sequence(tokens, words, p + 1, n, d + 1);
-    close_block(tokens, a)
+    close(tokens, 3, a)
 }
 
 // ELSE and its block, if it is there.
@@ -170,7 +143,11 @@ fn conditional(tokens: &[u64], words: &mut [u64], p: usize, n: usize, d: usize) 
         return b;
     };
     let c = otherwise(tokens, words, r, l + 1, d);
-    tested(tokens, words, p, m, l, c)
+    let Answer::Read(u, f) = c else {
+        return c;
+    };
+    tested(tokens, words, p, m, l, f);
+    Answer::Read(u, f)
 }
 
 fn while_loop(tokens: &[u64], words: &mut [u64], p: usize, n: usize, d: usize) -> Answer
@@ -182,7 +159,11 @@ fn while_loop(tokens: &[u64], words: &mut [u64], p: usize, n: usize, d: usize) -
         return a;
     };
     let b = block(tokens, words, q, m + 1, d);
-    repeated(tokens, words, p, m, b)
+    let Answer::Read(r, l) = b else {
+        return b;
+    };
+    repeated(tokens, words, p, m, l);
+    Answer::Read(r, l + 1)
 }
 
 fn for_loop(tokens: &[u64], words: &mut [u64], p: usize, n: usize, d: usize) -> Answer
@@ -198,7 +179,11 @@ fn for_loop(tokens: &[u64], words: &mut [u64], p: usize, n: usize, d: usize) -> 
         return a;
     };
     let b = block(tokens, words, q, m + 1, d);
-    ranged(tokens, words, p, m, b)
+    let Answer::Read(r, l) = b else {
+        return b;
+    };
+    ranged(tokens, words, p, m, l);
+    Answer::Read(r, l + 1)
 }
 
 // The words of the program that the tokens are, or the row and the token of its refusal.

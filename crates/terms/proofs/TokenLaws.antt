@@ -10,7 +10,9 @@ use borrow.Author.Tests.{eq-eqb, ne-eqb, lt-ltb, le-ltb, ltb-true, ltb-false, eq
 use Rattle.definition.proofs.GrammarReads.{Next, nothing, a-name, a-string, a-sign, a-key, next}
 use Rattle.definition.specs.Text.{if_then_else_}
 use Rattle.definition.specs.Token.{Sign, equal, unequal, less, at-most, greater, at-least, Terminal, name, string, sign, key, Token, terminals, token-at}
-use Rattle.terms.specs.Phrases.{kind-in, usual, seen, Holds}
+use Rattle.terms.specs.declared.Answer.{Answer}
+use Rattle.terms.specs.declared.Answer.the-variants.{Read, Refused}
+use Rattle.terms.specs.Phrases.{kind-in, usual, seen, closed, Holds}
 use Rattle.words.specs.Raw.{number, sign-number}
 use Rattle.lexer.specs.Tokens.{terminal-of, terminals-of, sign-of, kind-of, at-of}
 
@@ -180,6 +182,14 @@ module _ (ws : List ℕ) (p : ℕ) where
 
   pub not-sign : (41 ≤ kind-in ws p → kind-in ws p ≤ 46 → ⊥) → (g : Sign) → next (drop p (seen ws)) ≡ a-sign g → ⊥
   not-sign h g e = let i : kind-in ws p ≡ sign-number g + 41 = sym (next-kind ws p) ∙ ap code e in h (omega (arith, sign-small g)) (omega (arith, sign-small g))
+
+-- the closing token is there or it is not
+pub closed-cases : (P : Answer → Type 0) (ws : List ℕ) (k q m : ℕ) → (kind-in ws q ≡ k → P (Read (q + 1) m)) → ((kind-in ws q ≡ k → ⊥) → P (Refused 10 q)) → P (closed ws k (Read q m))
+closed-cases P ws k q m there absent = at (eqb (kind-in ws q) k) refl
+  where
+    at : (b : Bool) → eqb (kind-in ws q) k ≡ b → P (if b then (Read (q + 1) m) else (Refused 10 q))
+    at true e = there (eqb-true (kind-in ws q) k e)
+    at false e = absent (eqb-false (kind-in ws q) k e)
 
 -- the tokens that the words hold
 terminal-at : (ts : List Token) (p : ℕ) (t : Terminal) (l : List Terminal) → drop p (terminals ts) ≡ t ∷ l → token-at ts p .terminal ≡ t

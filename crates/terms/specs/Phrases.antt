@@ -2,7 +2,7 @@
 use mathlib.Core.List.{List, [], _∷_, map}
 use mathlib.Core.Path.{_≡_}
 use Prim.Native.Nat.{ℕ, zero, suc, _+_, _≤_, _<_}
-use lib.Dec.{ltb}
+use lib.Dec.{eqb, ltb}
 use lib.ListN.{length, drop}
 use lib.Seq.{sets}
 use Rattle.definition.proofs.GrammarReads.{Reads, Fails}
@@ -35,6 +35,11 @@ unfoldable pub kind-in : List ℕ → ℕ → ℕ
 kind-in [] p = 64
 kind-in (w ∷ ws) zero = usual (kind-of w)
 kind-in (w ∷ ws) (suc p) = kind-in ws p
+
+-- after the closing token, of kind k
+abbrev pub closed : List ℕ → ℕ → Answer → Answer
+closed ws k (Read q m) = if eqb (kind-in ws q) k then (Read (q + 1) m) else (Refused 10 q)
+closed ws k (Refused row q) = Refused row q
 
 -- where a function that reads may be called: at a token, with no more words written than tokens read
 pub record Room (ws : List ℕ) (M p n d : ℕ) : Type 0 where

@@ -5,7 +5,7 @@ ghost use mathlib.Core.List.{[], _∷_};
 ghost use Prim.Native.Nat.{ℕ, _+_, _-_, _<_, _≤_};
 ghost use lib.ListN.{length};
 ghost use lib.Seq.{sets};
-ghost use Rattle.terms.specs.Phrases.{kind-in, Room, IsPrimary};
+ghost use Rattle.terms.specs.Phrases.{kind-in, closed, Room, IsPrimary};
 ghost use Rattle.terms.specs.Terms.{leaf-in, IsListed, Truth, IsSign, Plain};
 ghost use Rattle.words.specs.Fields.{word};
 use words::pack;
@@ -25,6 +25,23 @@ pub fn kind_at(tokens: &[u64], p: usize) -> u64
     }
     let k = tokens[p] % 64;
     if k < 49 { k } else { 46 }
+}
+
+// After what stands in brackets: the closing one, a token of the given kind.
+pub fn close(tokens: &[u64], kind: u64, a: Answer) -> Answer
+    requires { ⌜ kind < 64 ⌝ }
+    ensures { λ r. ⌜ r ≡ closed (now (tokens .entry)) kind a ⌝ }
+{
+    match a {
+        Answer::Read(q, m) => {
+            if kind_at(tokens, q) == kind {
+                Answer::Read(q + 1, m)
+            } else {
+                Answer::Refused(10, q)
+            }
+        }
+        Answer::Refused(row, q) => Answer::Refused(row, q),
+    }
 }
 
 // The word of the term at p, where a name is of the given kind; 0 where there is no term. "_" is one only among the terms of an expression.

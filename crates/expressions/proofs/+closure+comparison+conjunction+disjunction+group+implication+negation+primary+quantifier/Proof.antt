@@ -1,11 +1,11 @@
 use borrow.Author.Needs.{needs}
 use native.Mathlib.Omega.{arith}
-use mathlib.Core.Path.{_≡_, refl, sym, ap, _∙_}
+use mathlib.Core.Path.{sym, _∙_}
 use Prim.Native.Nat.{_+_, _*_, _-_}
 use mathlib.Core.List.{List}
 use mathlib.Core.Logic.{inl, inr, ⊎-elim}
 use lib.ListN.{length}
-use Rattle.expressions.proofs.BracketLaws.{brackets-close, group-reads, group-deep, closure-within, closure-deep, closure-open, closure-reads, closed-room, bound-of, quantifier-law, quantifier-within, quantifier-deep, quantifier-unbound, quantifier-reads, bind-room, ex-here, fa-here, closure-here, plain-here}
+use Rattle.expressions.proofs.BracketLaws.{brackets-close, group-reads, group-deep, closure-deep, closure-open, closure-reads, closed-room, bound-of, quantifier-law, quantifier-within, quantifier-deep, quantifier-unbound, quantifier-reads, bind-room, ex-here, fa-here, closure-here, plain-here}
 use Rattle.expressions.proofs.OperatorLaws.{paid-of, tail-stops, comparison-tail, consequent-tail, no-sign-ends, sign-joins, no-arrow-ends, implies-joins, iff-joins, Linked, or-chain, and-chain, chain-starts, chain-stops, chain-paid, chain-ends, chain-on, chain-less, left, negation-deep, negation-plain, negation-wraps, join-room, wrap-room}
 use Rattle.terms.proofs.TokenLaws.{kind-within}
 use Prim.Native.Nat.{ℕ, _<_}
@@ -40,10 +40,10 @@ use Rattle.expressions.proofs.quantifier.Kinds as quantifier-kinds
 use Rattle.expressions.proofs.+closure+comparison+conjunction+disjunction+group+implication+negation+primary+quantifier.Lts-quantifier as quantifier-lts
 use Rattle.expressions.proofs.attributes.Reads as attributes-reads
 use Rattle.expressions.proofs.bind.Reads as bind-reads
-use Rattle.expressions.proofs.close.Reads as close-reads
 use Rattle.expressions.proofs.join.Reads as join-reads
 use Rattle.expressions.proofs.wrap.Reads as wrap-reads
 use Rattle.terms.proofs.atom.Reads as atom-reads
+use Rattle.terms.proofs.close.Reads as close-reads
 use Rattle.terms.proofs.kind_at.Reads as kind-at-reads
 use Rattle.expressions.proofs.+closure+comparison+conjunction+disjunction+group+implication+negation+primary+quantifier.{
   statement,
@@ -213,29 +213,30 @@ conjunction-Inv-loop tokens words₀ p n d a₀ words a = (A : List ℕ) → Lin
 abbrev conjunction-μ-loop : conjunction-lts.MeasureT-loop
 conjunction-μ-loop tokens words₀ p n d a₀ words a = left tokens a
 
-conjunction-loop-holds : (t : ℕ) → conjunction-lts.Need-loop-holds (conjunction-with t) (conjunction-at t) conjunction.Post conjunction-Inv-loop conjunction-μ-loop
-conjunction-loop-holds t c = λ A h. h
+-- what the loop has read
+conjunction-sofar : (t : ℕ) (c : conjunction-lts.At-loop (conjunction-with t) (conjunction-at t) conjunction.Post conjunction-Inv-loop conjunction-μ-loop) → Linked and-chain (c .before .before .before .before .before .before .before .args .tokens .now) (c .before .before .before .before .before .before .before .args .p) (c .before .before .before .before .before .before .before .args .n) (c .before .before .before .before .before .before .before .args .d) (c .before .before .before .before .before .before .before .args .words .now) (c .loop .words) (c .loop .a)
+conjunction-sofar t c = c .loop .inv (c .before .before .before .before .before .before .before .args .words .now) (chain-starts and-chain (c .before .before .before .negation .ensures) (c .before .before .before .negation .kept .1 .0))
 
 conjunction-same-length : (t : ℕ) → conjunction-lts.Need-same-length (conjunction-with t) (conjunction-at t) conjunction.Post conjunction-Inv-loop conjunction-μ-loop
-conjunction-same-length t c = (c .before .before .loop .inv (c .before .before .before .before .before .before .before .before .before .args .words .now) (chain-starts and-chain (c .before .before .before .before .before .negation .ensures) (c .before .before .before .before .before .negation .kept .1 .0))) .long
+conjunction-same-length t c = (conjunction-sofar t (c .before .before)) .long
 
 conjunction-returns : (t : ℕ) → conjunction-lts.Need-returns (conjunction-with t) (conjunction-at t) conjunction.Post conjunction-Inv-loop conjunction-μ-loop
-conjunction-returns t c = chain-stops and-chain (c .before .before .loop .inv (c .before .before .before .before .before .before .before .before .before .args .words .now) (chain-starts and-chain (c .before .before .before .before .before .negation .ensures) (c .before .before .before .before .before .negation .kept .1 .0))) (c .enum-told .given .1)
+conjunction-returns t c = chain-stops and-chain (conjunction-sofar t (c .before .before)) (c .enum-told .given .1)
 
 conjunction-same-length-2 : (t : ℕ) → conjunction-lts.Need-same-length-2 (conjunction-with t) (conjunction-at t) conjunction.Post conjunction-Inv-loop conjunction-μ-loop
-conjunction-same-length-2 t c = (c .before .before .before .before .before .loop .inv (c .before .before .before .before .before .before .before .before .before .before .before .before .args .words .now) (chain-starts and-chain (c .before .before .before .before .before .before .before .before .negation .ensures) (c .before .before .before .before .before .before .before .before .negation .kept .1 .0))) .long
+conjunction-same-length-2 t c = (conjunction-sofar t (c .before .before .before .before .before)) .long
 
 conjunction-returns-2 : (t : ℕ) → conjunction-lts.Need-returns-2 (conjunction-with t) (conjunction-at t) conjunction.Post conjunction-Inv-loop conjunction-μ-loop
-conjunction-returns-2 t c = chain-ends and-chain (c .before .before .before .before .before .loop .inv (c .before .before .before .before .before .before .before .before .before .before .before .before .args .words .now) (chain-starts and-chain (c .before .before .before .before .before .before .before .before .negation .ensures) (c .before .before .before .before .before .before .before .before .negation .kept .1 .0))) (c .before .before .before .a .given .1) (λ e. c .if1 .taken (c .before .kind-at .ensures ∙ e))
+conjunction-returns-2 t c = chain-ends and-chain (conjunction-sofar t (c .before .before .before .before .before)) (c .before .before .before .a .given .1) (λ e. c .if1 .taken (c .before .kind-at .ensures ∙ e))
 
 conjunction-add-negation : (t : ℕ) → conjunction-lts.Need-add-negation (conjunction-with t) (conjunction-at t) conjunction.Post conjunction-Inv-loop conjunction-μ-loop
-conjunction-add-negation t c = let o = chain-paid and-chain (c .before .before .before .before .before .before .loop .inv (c .before .before .before .before .before .before .before .before .before .before .before .before .before .args .words .now) (chain-starts and-chain (c .before .before .before .before .before .before .before .before .before .negation .ensures) (c .before .before .before .before .before .before .before .before .before .negation .kept .1 .0))) (c .before .before .before .before .a .given .1) in omega arith
+conjunction-add-negation t c = let o = chain-paid and-chain (conjunction-sofar t (c .before .before .before .before .before .before)) (c .before .before .before .before .a .given .1) in omega arith
 
 conjunction-negation-requires-2 : (t : ℕ) → conjunction-lts.Need-negation-requires-2 (conjunction-with t) (conjunction-at t) conjunction.Post conjunction-Inv-loop conjunction-μ-loop
-conjunction-negation-requires-2 t c κs = let h = c .before .before .before .before .before .before .loop .inv (c .before .before .before .before .before .before .before .before .before .before .before .before .before .args .words .now) (chain-starts and-chain (c .before .before .before .before .before .before .before .before .before .negation .ensures) (c .before .before .before .before .before .before .before .before .before .negation .kept .1 .0)) in let o = chain-paid and-chain h (c .before .before .before .before .a .given .1) in let l = kind-within (c .before .before .before .before .before .before .before .before .before .before .before .before .before .args .tokens .now) (c .before .before .before .before .a .given .0 .0) (omega (arith, c .before .before .kind-at .ensures)) in omega (arith, h .long)
+conjunction-negation-requires-2 t c κs = let h = conjunction-sofar t (c .before .before .before .before .before .before) in let o = chain-paid and-chain h (c .before .before .before .before .a .given .1) in let l = kind-within (c .before .before .before .before .before .before .before .before .before .before .before .before .before .args .tokens .now) (c .before .before .before .before .a .given .0 .0) (omega (arith, c .before .before .kind-at .ensures)) in omega (arith, h .long)
 
 conjunction-join-requires : (t : ℕ) → conjunction-lts.Need-join-requires (conjunction-with t) (conjunction-at t) conjunction.Post conjunction-Inv-loop conjunction-μ-loop
-conjunction-join-requires t c κs = let h = c .before .before .before .before .before .before .before .before .before .before .loop .inv (c .before .before .before .before .before .before .before .before .before .before .before .before .before .before .before .before .before .args .words .now) (chain-starts and-chain (c .before .before .before .before .before .before .before .before .before .before .before .before .before .negation .ensures) (c .before .before .before .before .before .before .before .before .before .before .before .before .before .negation .kept .1 .0)) in let o = chain-paid and-chain h (c .before .before .before .before .before .before .before .before .a .given .1) in let l = kind-within (c .before .before .before .before .before .before .before .before .before .before .before .before .before .before .before .before .before .args .tokens .now) (c .before .before .before .before .before .before .before .before .a .given .0 .0) (omega (arith, c .before .before .before .before .before .before .kind-at .ensures)) in join-room 15 0 (c .before .before .before .negation2 .ensures) (omega arith) (omega arith) (omega arith) (omega arith) (omega arith) (omega (arith, h .long))
+conjunction-join-requires t c κs = let h = conjunction-sofar t (c .before .before .before .before .before .before .before .before .before .before) in let o = chain-paid and-chain h (c .before .before .before .before .before .before .before .before .a .given .1) in let l = kind-within (c .before .before .before .before .before .before .before .before .before .before .before .before .before .before .before .before .before .args .tokens .now) (c .before .before .before .before .before .before .before .before .a .given .0 .0) (omega (arith, c .before .before .before .before .before .before .kind-at .ensures)) in join-room 15 0 (c .before .before .before .negation2 .ensures) (omega arith) (omega arith) (omega arith) (omega arith) (omega arith) (omega (arith, h .long))
 
 conjunction-loop-less : (t : ℕ) → conjunction-lts.Need-loop-less (conjunction-with t) (conjunction-at t) conjunction.Post conjunction-Inv-loop conjunction-μ-loop
 conjunction-loop-less t c = chain-less 15 _ _ (c .before .before .before .before .before .before .before .before .before .before .before .a .given .1) (kind-within (c .before .before .before .before .before .before .before .before .before .before .before .before .before .before .before .before .before .before .before .before .args .tokens .now) (c .before .before .before .before .before .before .before .before .before .before .before .a .given .0 .0) (omega (arith, c .before .before .before .before .before .before .before .before .before .kind-at .ensures))) (c .before .before .before .before .before .before .negation2 .ensures) (c .before .before .join .ensures)
@@ -249,29 +250,30 @@ disjunction-Inv-loop tokens words₀ p n d a₀ words a = (A : List ℕ) → Lin
 abbrev disjunction-μ-loop : disjunction-lts.MeasureT-loop
 disjunction-μ-loop tokens words₀ p n d a₀ words a = left tokens a
 
-disjunction-loop-holds : (t : ℕ) → disjunction-lts.Need-loop-holds (disjunction-with t) (disjunction-at t) disjunction.Post disjunction-Inv-loop disjunction-μ-loop
-disjunction-loop-holds t c = λ A h. h
+-- what the loop has read
+disjunction-sofar : (t : ℕ) (c : disjunction-lts.At-loop (disjunction-with t) (disjunction-at t) disjunction.Post disjunction-Inv-loop disjunction-μ-loop) → Linked or-chain (c .before .before .before .before .before .before .before .args .tokens .now) (c .before .before .before .before .before .before .before .args .p) (c .before .before .before .before .before .before .before .args .n) (c .before .before .before .before .before .before .before .args .d) (c .before .before .before .before .before .before .before .args .words .now) (c .loop .words) (c .loop .a)
+disjunction-sofar t c = c .loop .inv (c .before .before .before .before .before .before .before .args .words .now) (chain-starts or-chain (c .before .before .before .conjunction .ensures) (c .before .before .before .conjunction .kept .1 .0))
 
 disjunction-same-length : (t : ℕ) → disjunction-lts.Need-same-length (disjunction-with t) (disjunction-at t) disjunction.Post disjunction-Inv-loop disjunction-μ-loop
-disjunction-same-length t c = (c .before .before .loop .inv (c .before .before .before .before .before .before .before .before .before .args .words .now) (chain-starts or-chain (c .before .before .before .before .before .conjunction .ensures) (c .before .before .before .before .before .conjunction .kept .1 .0))) .long
+disjunction-same-length t c = (disjunction-sofar t (c .before .before)) .long
 
 disjunction-returns : (t : ℕ) → disjunction-lts.Need-returns (disjunction-with t) (disjunction-at t) disjunction.Post disjunction-Inv-loop disjunction-μ-loop
-disjunction-returns t c = chain-stops or-chain (c .before .before .loop .inv (c .before .before .before .before .before .before .before .before .before .args .words .now) (chain-starts or-chain (c .before .before .before .before .before .conjunction .ensures) (c .before .before .before .before .before .conjunction .kept .1 .0))) (c .enum-told .given .1)
+disjunction-returns t c = chain-stops or-chain (disjunction-sofar t (c .before .before)) (c .enum-told .given .1)
 
 disjunction-same-length-2 : (t : ℕ) → disjunction-lts.Need-same-length-2 (disjunction-with t) (disjunction-at t) disjunction.Post disjunction-Inv-loop disjunction-μ-loop
-disjunction-same-length-2 t c = (c .before .before .before .before .before .loop .inv (c .before .before .before .before .before .before .before .before .before .before .before .before .args .words .now) (chain-starts or-chain (c .before .before .before .before .before .before .before .before .conjunction .ensures) (c .before .before .before .before .before .before .before .before .conjunction .kept .1 .0))) .long
+disjunction-same-length-2 t c = (disjunction-sofar t (c .before .before .before .before .before)) .long
 
 disjunction-returns-2 : (t : ℕ) → disjunction-lts.Need-returns-2 (disjunction-with t) (disjunction-at t) disjunction.Post disjunction-Inv-loop disjunction-μ-loop
-disjunction-returns-2 t c = chain-ends or-chain (c .before .before .before .before .before .loop .inv (c .before .before .before .before .before .before .before .before .before .before .before .before .args .words .now) (chain-starts or-chain (c .before .before .before .before .before .before .before .before .conjunction .ensures) (c .before .before .before .before .before .before .before .before .conjunction .kept .1 .0))) (c .before .before .before .a .given .1) (λ e. c .if1 .taken (c .before .kind-at .ensures ∙ e))
+disjunction-returns-2 t c = chain-ends or-chain (disjunction-sofar t (c .before .before .before .before .before)) (c .before .before .before .a .given .1) (λ e. c .if1 .taken (c .before .kind-at .ensures ∙ e))
 
 disjunction-add-conjunction : (t : ℕ) → disjunction-lts.Need-add-conjunction (disjunction-with t) (disjunction-at t) disjunction.Post disjunction-Inv-loop disjunction-μ-loop
-disjunction-add-conjunction t c = let o = chain-paid or-chain (c .before .before .before .before .before .before .loop .inv (c .before .before .before .before .before .before .before .before .before .before .before .before .before .args .words .now) (chain-starts or-chain (c .before .before .before .before .before .before .before .before .before .conjunction .ensures) (c .before .before .before .before .before .before .before .before .before .conjunction .kept .1 .0))) (c .before .before .before .before .a .given .1) in omega arith
+disjunction-add-conjunction t c = let o = chain-paid or-chain (disjunction-sofar t (c .before .before .before .before .before .before)) (c .before .before .before .before .a .given .1) in omega arith
 
 disjunction-conjunction-requires-2 : (t : ℕ) → disjunction-lts.Need-conjunction-requires-2 (disjunction-with t) (disjunction-at t) disjunction.Post disjunction-Inv-loop disjunction-μ-loop
-disjunction-conjunction-requires-2 t c κs = let h = c .before .before .before .before .before .before .loop .inv (c .before .before .before .before .before .before .before .before .before .before .before .before .before .args .words .now) (chain-starts or-chain (c .before .before .before .before .before .before .before .before .before .conjunction .ensures) (c .before .before .before .before .before .before .before .before .before .conjunction .kept .1 .0)) in let o = chain-paid or-chain h (c .before .before .before .before .a .given .1) in let l = kind-within (c .before .before .before .before .before .before .before .before .before .before .before .before .before .args .tokens .now) (c .before .before .before .before .a .given .0 .0) (omega (arith, c .before .before .kind-at .ensures)) in omega (arith, h .long)
+disjunction-conjunction-requires-2 t c κs = let h = disjunction-sofar t (c .before .before .before .before .before .before) in let o = chain-paid or-chain h (c .before .before .before .before .a .given .1) in let l = kind-within (c .before .before .before .before .before .before .before .before .before .before .before .before .before .args .tokens .now) (c .before .before .before .before .a .given .0 .0) (omega (arith, c .before .before .kind-at .ensures)) in omega (arith, h .long)
 
 disjunction-join-requires : (t : ℕ) → disjunction-lts.Need-join-requires (disjunction-with t) (disjunction-at t) disjunction.Post disjunction-Inv-loop disjunction-μ-loop
-disjunction-join-requires t c κs = let h = c .before .before .before .before .before .before .before .before .before .before .loop .inv (c .before .before .before .before .before .before .before .before .before .before .before .before .before .before .before .before .before .args .words .now) (chain-starts or-chain (c .before .before .before .before .before .before .before .before .before .before .before .before .before .conjunction .ensures) (c .before .before .before .before .before .before .before .before .before .before .before .before .before .conjunction .kept .1 .0)) in let o = chain-paid or-chain h (c .before .before .before .before .before .before .before .before .a .given .1) in let l = kind-within (c .before .before .before .before .before .before .before .before .before .before .before .before .before .before .before .before .before .args .tokens .now) (c .before .before .before .before .before .before .before .before .a .given .0 .0) (omega (arith, c .before .before .before .before .before .before .kind-at .ensures)) in join-room 16 0 (c .before .before .before .conjunction2 .ensures) (omega arith) (omega arith) (omega arith) (omega arith) (omega arith) (omega (arith, h .long))
+disjunction-join-requires t c κs = let h = disjunction-sofar t (c .before .before .before .before .before .before .before .before .before .before) in let o = chain-paid or-chain h (c .before .before .before .before .before .before .before .before .a .given .1) in let l = kind-within (c .before .before .before .before .before .before .before .before .before .before .before .before .before .before .before .before .before .args .tokens .now) (c .before .before .before .before .before .before .before .before .a .given .0 .0) (omega (arith, c .before .before .before .before .before .before .kind-at .ensures)) in join-room 16 0 (c .before .before .before .conjunction2 .ensures) (omega arith) (omega arith) (omega arith) (omega arith) (omega arith) (omega (arith, h .long))
 
 disjunction-loop-less : (t : ℕ) → disjunction-lts.Need-loop-less (disjunction-with t) (disjunction-at t) disjunction.Post disjunction-Inv-loop disjunction-μ-loop
 disjunction-loop-less t c = chain-less 16 _ _ (c .before .before .before .before .before .before .before .before .before .before .before .a .given .1) (kind-within (c .before .before .before .before .before .before .before .before .before .before .before .before .before .before .before .before .before .before .before .before .args .tokens .now) (c .before .before .before .before .before .before .before .before .before .before .before .a .given .0 .0) (omega (arith, c .before .before .before .before .before .before .before .before .before .kind-at .ensures))) (c .before .before .before .before .before .before .conjunction2 .ensures) (c .before .before .join .ensures)
@@ -348,18 +350,6 @@ primary-closure-requires t c κs = (omega arith, (closure-here _ _ (c .before .b
 primary-atom-requires : (t : ℕ) → primary-lts.Need-atom-requires (primary-with t) (primary-at t) primary.Post
 primary-atom-requires t c κs = (plain-here _ _ (c .before .before .before .kind-at .ensures) (c .before .before .match .rest .0 .0 .1) (c .before .before .match .rest .0 .1) (c .before .before .match .rest .1) (⊎-elim (λ w. inl (w .taken)) (λ w. inr (w .1 .left)) (c .before .if1 .came)), omega arith)
 
-primary-returns : (t : ℕ) → primary-lts.Need-returns (primary-with t) (primary-at t) primary.Post
-primary-returns t c = c .before .before .group .ensures
-
-primary-returns-2 : (t : ℕ) → primary-lts.Need-returns-2 (primary-with t) (primary-at t) primary.Post
-primary-returns-2 t c = c .before .before .quantifier .ensures
-
-primary-returns-3 : (t : ℕ) → primary-lts.Need-returns-3 (primary-with t) (primary-at t) primary.Post
-primary-returns-3 t c = c .before .before .quantifier2 .ensures
-
-primary-returns-4 : (t : ℕ) → primary-lts.Need-returns-4 (primary-with t) (primary-at t) primary.Post
-primary-returns-4 t c = c .before .before .closure .ensures
-
 primary-returns-5 : (t : ℕ) → primary-lts.Need-returns-5 (primary-with t) (primary-at t) primary.Post
 primary-returns-5 t c = c .before .before .atom .ensures _ (omega arith)
 
@@ -433,7 +423,7 @@ pub +closure+comparison+conjunction+disjunction+group+implication+negation+prima
     conjunction-Inv-loop
     conjunction-μ-loop
     (λ c κs. omega arith)
-    (conjunction-loop-holds t)
+    (λ c A h. h)
     (λ c. search needs)
     (λ c. search needs)
     (conjunction-same-length t)
@@ -452,7 +442,7 @@ pub +closure+comparison+conjunction+disjunction+group+implication+negation+prima
     disjunction-Inv-loop
     disjunction-μ-loop
     (λ c κs. omega arith)
-    (disjunction-loop-holds t)
+    (λ c A h. h)
     (λ c. search needs)
     (λ c. search needs)
     (disjunction-same-length t)
@@ -520,13 +510,13 @@ pub +closure+comparison+conjunction+disjunction+group+implication+negation+prima
     (primary-closure-requires t)
     (primary-atom-requires t)
     (λ c. search needs)
-    (primary-returns t)
+    (λ c. c .before .before .group .ensures)
     (λ c. search needs)
-    (primary-returns-2 t)
+    (λ c. c .before .before .quantifier .ensures)
     (λ c. search needs)
-    (primary-returns-3 t)
+    (λ c. c .before .before .quantifier2 .ensures)
     (λ c. search needs)
-    (primary-returns-4 t)
+    (λ c. c .before .before .closure .ensures)
     (λ c. search needs)
     (primary-returns-5 t))
     λ t. quantifier-lts.spec (quantifier-with t)

@@ -1,14 +1,11 @@
 use borrow.Author.Needs.{needs}
 use native.Mathlib.Omega.{arith}
-use Prim.Native.Nat.{ℕ, _-_, _+_}
-use mathlib.Core.Path.{_≡_, refl, sym, ap, _∙_}
+use Prim.Native.Nat.{_-_}
+use mathlib.Core.Path.{refl, ap}
 use Rattle.expressions.proofs.QuantifierLaws.{Binding, binding-starts, binding-on, binding-ends}
 use Rattle.terms.specs.declared.Answer.the-variants.{Read}
 use Rattle.expressions.proofs.bind.Statement.{statement}
 use Rattle.expressions.proofs.bind.Tie as tie
-use Rattle.expressions.proofs.bind.Reads as reads
-use Rattle.expressions.proofs.bind.Lts as lts
-use Rattle.words.proofs.pack.Reads as pack-reads
 
 abbrev Inv-loop : tie.InvT-loop
 Inv-loop words₀ kind n m q l i₀ k₀ words i k = Binding words₀ kind n m l words i k
@@ -16,14 +13,8 @@ Inv-loop words₀ kind n m q l i₀ k₀ words i k = Binding words₀ kind n m l
 abbrev μ-loop : tie.MeasureT-loop
 μ-loop words₀ kind n m q l i₀ k₀ words i k = i - n
 
-enum-known-a : tie.Need-enum-known-a Inv-loop μ-loop
-enum-known-a c = search needs
-
 loop-holds : tie.Need-loop-holds Inv-loop μ-loop
 loop-holds c = binding-starts (rw (c .before .a .given .1) at (c .before .before .before .before .pre))
-
-sub-i : tie.Need-sub-i Inv-loop μ-loop
-sub-i c = omega arith
 
 sub-pack : tie.Need-sub-pack Inv-loop μ-loop
 sub-pack c = let s = c .before .loop .inv .space in omega arith
@@ -40,14 +31,8 @@ slice-write-words c = let s = c .before .before .loop .inv .space in omega arith
 add-k : tie.Need-add-k Inv-loop μ-loop
 add-k c = let s = c .before .before .loop .inv .space in omega arith
 
-loop-less : tie.Need-loop-less Inv-loop μ-loop
-loop-less c = omega arith
-
 loop-again : tie.Need-loop-again Inv-loop μ-loop
 loop-again c = binding-on (c .before .before .loop .inv) (c .before .loop-test .taken) (c .pack .ensures)
-
-enum-known-a-2 : tie.Need-enum-known-a-2 Inv-loop μ-loop
-enum-known-a-2 c = search needs
 
 same-length : tie.Need-same-length Inv-loop μ-loop
 same-length c = c .before .loop .inv .long
@@ -64,17 +49,17 @@ bind-spec =
     (tie.spec
     Inv-loop
     μ-loop
-    enum-known-a
+    (λ c. search needs)
     loop-holds
-    sub-i
+    (λ c. omega arith)
     sub-pack
     pack-requires
     mul-words
     slice-write-words
     add-k
-    loop-less
+    (λ c. omega arith)
     loop-again
-    enum-known-a-2
+    (λ c. search needs)
     same-length
     returns
     returns-2)

@@ -1,16 +1,10 @@
 use Prim.Native.Nat.{ℕ}
 use lib.ListN.{set}
 use native.Mathlib.Omega.{arith}
-use mathlib.Core.Path.{_≡_, refl, sym, ap}
+use mathlib.Core.Path.{refl, ap}
 use borrow.Author.Needs.{needs}
 use Rattle.expressions.proofs.wrap.Statement.{statement}
 use Rattle.expressions.proofs.wrap.Tie as tie
-use Rattle.expressions.proofs.wrap.Reads as reads
-use Rattle.expressions.proofs.wrap.Lts as lts
-use Rattle.words.proofs.pack.Reads as pack-reads
-
-enum-known-a : tie.Need-enum-known-a
-enum-known-a c = search needs
 
 sub-pack : tie.Need-sub-pack
 sub-pack c = let s = rw (c .before .a .given .1) at (c .before .before .before .before .pre) in omega arith
@@ -18,20 +12,8 @@ sub-pack c = let s = rw (c .before .a .given .1) at (c .before .before .before .
 pack-requires : tie.Need-pack-requires
 pack-requires c κs = let s = rw (c .before .a .given .1) at (c .before .before .before .before .pre) in omega arith
 
-mul-words : tie.Need-mul-words
-mul-words c = search needs
-
 slice-write-words : tie.Need-slice-write-words
 slice-write-words c = let s = rw (c .before .before .a .given .1) at (c .before .before .before .before .before .pre) in omega arith
-
-add-t10 : tie.Need-add-t10
-add-t10 c = search needs
-
-enum-known-a-2 : tie.Need-enum-known-a-2
-enum-known-a-2 c = search needs
-
-same-length : tie.Need-same-length
-same-length c = search needs
 
 returns : tie.Need-returns
 returns c = rw (c .before .before .a .given .1) (refl, ap (λ (w : ℕ). set (c .before .before .before .before .before .args .words .now) (c .before .before .a .given .0 .1 .0) w) (c .pack .ensures))
@@ -43,13 +25,13 @@ pub wrap-spec : {M : Type 1} → statement M
 wrap-spec =
     tie.close
     (tie.spec
-    enum-known-a
+    (λ c. search needs)
     sub-pack
     pack-requires
-    mul-words
+    (λ c. search needs)
     slice-write-words
-    add-t10
-    enum-known-a-2
-    same-length
+    (λ c. search needs)
+    (λ c. search needs)
+    (λ c. search needs)
     returns
     returns-2)

@@ -2,18 +2,6 @@ use Rattle.parser.proofs.QueryLaws.{place-inside, place-outside}
 use borrow.Author.Needs.{needs}
 use Rattle.parser.proofs.place_at.Statement.{statement}
 use Rattle.parser.proofs.place_at.Tie as tie
-use Rattle.parser.proofs.place_at.Reads as reads
-use Rattle.parser.proofs.place_at.Lts as lts
-use Rattle.lexer.proofs.place.Reads as place-reads
-
-mul-place : tie.Need-mul-place
-mul-place c = search needs
-
-shared-slice-read-place : tie.Need-shared-slice-read-place
-shared-slice-read-place c = search needs
-
-place-requires : tie.Need-place-requires
-place-requires c κs = search needs
 
 returns : tie.Need-returns
 returns c = place-inside _ (c .before .before .before .before .before .args .tokens .now) (c .before .before .before .before .before .args .q) (c .before .before .if1 .taken) (c .place .ensures)
@@ -23,4 +11,4 @@ returns-2 c = place-outside _ (c .before .before .before .args .tokens .now) (c 
 
 pub place-at-spec : {M : Type 1} → statement M
 place-at-spec =
-    tie.close (tie.spec mul-place shared-slice-read-place place-requires returns returns-2)
+    tie.close (tie.spec (λ c. search needs) (λ c. search needs) (λ c κs. search needs) returns returns-2)

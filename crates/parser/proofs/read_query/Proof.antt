@@ -5,16 +5,6 @@ use lib.Seq.{length-take-le}
 use borrow.Author.Needs.{needs}
 use Rattle.parser.proofs.read_query.Statement.{statement}
 use Rattle.parser.proofs.read_query.Tie as tie
-use Rattle.parser.proofs.read_query.Reads as reads
-use Rattle.parser.proofs.read_query.Lts as lts
-use Rattle.lexer.proofs.lex.Reads as lex-reads
-use Rattle.parser.proofs.read_tokens.Reads as read-tokens-reads
-
-lex-requires : tie.Need-lex-requires
-lex-requires c κs = search needs
-
-enum-known-n : tie.Need-enum-known-n
-enum-known-n c = search needs
 
 slice-reshare-prefix-read-tokens : tie.Need-slice-reshare-prefix-read-tokens
 slice-reshare-prefix-read-tokens c = let h = lexed-few (c .before .n .given .1) (c .before .before .before .before .before .lex .ensures .1 .0) in omega arith
@@ -25,20 +15,8 @@ slice-aggregate-read-tokens c = let h = lexed-few (c .before .before .n .given .
 read-tokens-requires : tie.Need-read-tokens-requires
 read-tokens-requires c κs = lexes _ (c .before .before .before .before .before .before .before .lex .last .1 .0) (c .before .before .before .n .given .1) (c .before .before .before .before .before .before .before .lex .ensures .0) (c .before .before .before .before .before .before .before .lex .ensures .1 .0) (c .before .before .before .before .before .before .before .lex .ensures .1 .1) (omega (arith, c .before .before .before .before .before .before .before .lex .kept .1 .0)) (omega arith)
 
-enum-known-r : tie.Need-enum-known-r
-enum-known-r c = search needs
-
-same-length : tie.Need-same-length
-same-length c = search needs
-
-same-length-2 : tie.Need-same-length-2
-same-length-2 c = search needs
-
 returns : tie.Need-returns
 returns c = let h = lexed-few (c .before .before .before .before .before .before .n .given .1) (c .before .before .before .before .before .before .before .before .before .before .lex .ensures .1 .0) in all-read _ (c .before .before .before .before .before .before .before .before .before .before .lex .last .1 .0) (c .before .before .read-tokens .last .1 .1 .0) (c .before .before .before .before .before .before .n .given .0 .0) (c .before .before .read-tokens .result) (omega (arith, c .before .before .before .before .before .before .before .before .before .before .lex .kept .1 .0)) (c .before .before .read-tokens .ensures)
-
-same-length-3 : tie.Need-same-length-3
-same-length-3 c = search needs
 
 returns-2 : tie.Need-returns-2
 returns-2 c = not-lexed _ (c .before .before .before .before .before .lex .last .1 .0) (c .before .r .given .1) (c .before .before .before .before .before .lex .ensures .0)
@@ -47,14 +25,14 @@ pub read-query-spec : {M : Type 1} → statement M
 read-query-spec =
     tie.close
     (tie.spec
-    lex-requires
-    enum-known-n
+    (λ c κs. search needs)
+    (λ c. search needs)
     slice-reshare-prefix-read-tokens
     slice-aggregate-read-tokens
     read-tokens-requires
-    enum-known-r
-    same-length
-    same-length-2
+    (λ c. search needs)
+    (λ c. search needs)
+    (λ c. search needs)
     returns
-    same-length-3
+    (λ c. search needs)
     returns-2)

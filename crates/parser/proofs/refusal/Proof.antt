@@ -2,12 +2,6 @@ use Rattle.parser.specs.Queries.{too-deep, no-program}
 use borrow.Author.Needs.{needs}
 use Rattle.parser.proofs.refusal.Statement.{statement}
 use Rattle.parser.proofs.refusal.Tie as tie
-use Rattle.parser.proofs.refusal.Reads as reads
-use Rattle.parser.proofs.refusal.Lts as lts
-use Rattle.parser.proofs.place_at.Reads as place-at-reads
-
-place-at-requires : tie.Need-place-at-requires
-place-at-requires c κs = search needs
 
 returns : tie.Need-returns
 returns c = rw (c .before .place-at .ensures) (too-deep (c .if1 .taken))
@@ -16,4 +10,4 @@ returns-2 : tie.Need-returns-2
 returns-2 c = rw (c .before .place-at .ensures) (no-program (c .if1 .left))
 
 pub refusal-spec : {M : Type 1} → statement M
-refusal-spec = tie.close (tie.spec place-at-requires returns returns-2)
+refusal-spec = tie.close (tie.spec (λ c κs. search needs) returns returns-2)

@@ -1,53 +1,19 @@
 use native.Mathlib.Omega.{arith}
-use mathlib.Core.Path.{_≡_, refl, sym, ap, subst, _∙_}
-use Prim.Native.Nat.{ℕ, _+_, _-_}
-use lib.ListN.{length, length-set}
+use mathlib.Core.Path.{sym, _∙_}
+use Prim.Native.Nat.{_+_, _-_}
+use lib.ListN.{length-set}
 use Rattle.simple.proofs.AssignLaws.{assign-open, assign-unlisted, assign-unended, assign-alone, assign-ends, finish-room}
-use Rattle.simple.specs.Statements.{IsStatement}
-use Rattle.terms.specs.declared.Answer.the-variants.{Read}
 use Rattle.terms.proofs.AtomLaws.{listed-of}
 use Rattle.terms.proofs.TokenLaws.{kind-within}
 use borrow.Author.Needs.{needs}
 use Rattle.simple.proofs.assignment.Statement.{statement}
 use Rattle.simple.proofs.assignment.Tie as tie
-use Rattle.simple.proofs.assignment.Reads as reads
-use Rattle.simple.proofs.assignment.Lts as lts
-use Rattle.expressions.proofs.comparison.Reads as comparison-reads
-use Rattle.simple.proofs.assertion.Reads as assertion-reads
-use Rattle.simple.proofs.finish.Reads as finish-reads
-use Rattle.terms.proofs.kind_at.Reads as kind-at-reads
-use Rattle.terms.proofs.list.Reads as list-reads
-use Rattle.words.proofs.pack.Reads as pack-reads
-
-add-kind-at : tie.Need-add-kind-at
-add-kind-at c = search needs
-
-kind-at-requires : tie.Need-kind-at-requires
-kind-at-requires c κs = search needs
-
-add-t15 : tie.Need-add-t15
-add-t15 c = search needs
 
 returns : tie.Need-returns
 returns c = assign-open _ _ _ _ _ (c .before .before .before .before .pre .0) (omega arith) (λ e. c .if1 .taken (c .before .kind-at .ensures ∙ e))
 
-add-list : tie.Need-add-list
-add-list c = search needs
-
-add-list-2 : tie.Need-add-list-2
-add-list-2 c = search needs
-
 list-requires : tie.Need-list-requires
 list-requires c κs = let l = kind-within (c .before .before .before .before .before .args .tokens .now) (c .before .before .before .before .before .args .p + 1) (omega (arith, c .before .before .kind-at .ensures)) in omega arith
-
-enum-known-a : tie.Need-enum-known-a
-enum-known-a c = search needs
-
-enum-told : tie.Need-enum-told
-enum-told c = search needs
-
-same-length : tie.Need-same-length
-same-length c = search needs
 
 returns-2 : tie.Need-returns-2
 returns-2 c = assign-unlisted _ _ _ _ _ (c .before .before .before .before .before .before .before .before .before .before .pre .0) (omega arith) (sym (c .before .before .before .before .before .before .before .kind-at .ensures) ∙ c .before .before .before .before .before .before .if1 .left) (c .before .before .before .before .list .ensures) (c .enum-told .given .1)
@@ -61,14 +27,8 @@ sub-pack-2 c = let u = listed-of (c .before .before .before .before .before .lis
 pack-requires : tie.Need-pack-requires
 pack-requires c κs = let u = listed-of (c .before .before .before .before .before .list .ensures) (c .before .a .given .1) in omega arith
 
-mul-words : tie.Need-mul-words
-mul-words c = search needs
-
 slice-write-words : tie.Need-slice-write-words
 slice-write-words c = let u = listed-of (c .before .before .before .before .before .before .list .ensures) (c .before .before .a .given .1) in omega arith
-
-kind-at-requires-2 : tie.Need-kind-at-requires-2
-kind-at-requires-2 c κs = search needs
 
 assertion-requires : tie.Need-assertion-requires
 assertion-requires c κs = let u = listed-of (c .before .before .before .before .before .before .before .before .before .list .ensures) (c .before .before .before .before .before .a .given .1) in let l = kind-within (c .before .before .before .before .before .before .before .before .before .before .before .before .before .before .before .args .tokens .now) (c .before .before .before .before .before .a .given .0 .0) (omega (arith, c .before .before .kind-at2 .ensures)) in record { order = omega arith; room = simp length-set (omega arith); tokens = omega arith; places = c .before .before .before .before .before .before .before .before .before .before .before .before .before .before .before .pre .1 .0; inside = omega arith; small = omega arith }
@@ -81,9 +41,6 @@ same-length-2 c = c .before .before .assertion .kept .1 .0 ∙ length-set (c .be
 
 returns-3 : tie.Need-returns-3
 returns-3 c = assign-alone _ _ _ _ _ (c .before .before .before .before .before .before .before .before .before .before .before .before .before .before .before .before .before .before .pre .0) (omega arith) (sym (c .before .before .before .before .before .before .before .before .before .before .before .before .before .before .before .kind-at .ensures) ∙ c .before .before .before .before .before .before .before .before .before .before .before .before .before .before .if1 .left) (c .before .before .before .before .before .before .before .before .before .before .before .before .list .ensures) (c .before .before .before .before .before .before .before .before .a .given .1) (c .before .before .before .before .before .before .pack .ensures) (sym (c .before .before .before .before .before .kind-at2 .ensures) ∙ c .before .before .before .before .if2 .taken) (c .before .before .assertion .ensures .0) (c .before .before .assertion .ensures .1)
-
-same-length-3 : tie.Need-same-length-3
-same-length-3 c = search needs
 
 returns-4 : tie.Need-returns-4
 returns-4 c = assign-unended _ _ _ _ _ (c .before .before .before .before .before .before .before .before .before .before .before .before .before .before .before .pre .0) (omega arith) (sym (c .before .before .before .before .before .before .before .before .before .before .before .before .kind-at .ensures) ∙ c .before .before .before .before .before .before .before .before .before .before .before .if1 .left) (c .before .before .before .before .before .before .before .before .before .list .ensures) (c .before .before .before .before .before .a .given .1) (c .before .before .before .pack .ensures) (λ e. c .before .if2 .left (c .before .before .kind-at2 .ensures ∙ e)) (λ e. c .if3 .taken (c .before .before .kind-at2 .ensures ∙ e))
@@ -107,28 +64,28 @@ pub assignment-spec : {M : Type 1} → statement M
 assignment-spec =
     tie.close
     (tie.spec
-    add-kind-at
-    kind-at-requires
-    add-t15
+    (λ c. search needs)
+    (λ c κs. search needs)
+    (λ c. search needs)
     returns
-    add-list
-    add-list-2
+    (λ c. search needs)
+    (λ c. search needs)
     list-requires
-    enum-known-a
-    enum-told
-    same-length
+    (λ c. search needs)
+    (λ c. search needs)
+    (λ c. search needs)
     returns-2
     sub-pack
     sub-pack-2
     pack-requires
-    mul-words
+    (λ c. search needs)
     slice-write-words
-    kind-at-requires-2
+    (λ c κs. search needs)
     assertion-requires
     add-t25
     same-length-2
     returns-3
-    same-length-3
+    (λ c. search needs)
     returns-4
     add-comparison
     comparison-requires

@@ -1,31 +1,17 @@
 use Rattle.simple.specs.Statements.{semicolon, no-semicolon}
 use Rattle.words.specs.Fields.{word}
 use native.Mathlib.Omega.{arith}
-use Prim.Native.Nat.{ℕ, _-_, _+_}
-use mathlib.Core.Path.{_≡_, refl, sym, ap, _∙_}
-use lib.ListN.{set, length-set}
+use Prim.Native.Nat.{_-_}
+use mathlib.Core.Path.{refl, sym, ap, _∙_}
+use lib.ListN.{set}
 use Rattle.simple.proofs.AssignLaws.{finish-space}
 use Rattle.terms.proofs.TokenLaws.{kind-within}
 use borrow.Author.Needs.{needs}
 use Rattle.simple.proofs.finish.Statement.{statement}
 use Rattle.simple.proofs.finish.Tie as tie
-use Rattle.simple.proofs.finish.Reads as reads
-use Rattle.simple.proofs.finish.Lts as lts
-use Rattle.simple.proofs.place.Reads as place-reads
-use Rattle.terms.proofs.kind_at.Reads as kind-at-reads
-use Rattle.words.proofs.pack.Reads as pack-reads
-
-enum-known-b : tie.Need-enum-known-b
-enum-known-b c = search needs
-
-enum-told : tie.Need-enum-told
-enum-told c = search needs
 
 returns : tie.Need-returns
 returns c = rw (c .enum-told .given .1) refl
-
-kind-at-requires : tie.Need-kind-at-requires
-kind-at-requires c κs = search needs
 
 returns-2 : tie.Need-returns-2
 returns-2 c = rw (c .before .before .before .b .given .1) (no-semicolon (λ e. c .if1 .taken (c .before .kind-at .ensures ∙ e)))
@@ -54,9 +40,6 @@ add-t12 c = let l = kind-within (c .before .before .before .before .before .befo
 add-t16 : tie.Need-add-t16
 add-t16 c = let s = finish-space (c .before .before .before .before .before .before .before .before .before .pre) (c .before .before .before .before .before .b .given .1) in omega arith
 
-same-length : tie.Need-same-length
-same-length c = search needs
-
 returns-3 : tie.Need-returns-3
 returns-3 c = rw (c .before .before .before .before .before .b .given .1) (semicolon (sym (c .before .before .before .kind-at .ensures) ∙ c .before .before .if1 .left) (ap (set (c .before .before .before .before .before .before .before .before .before .args .words .now) (c .before .before .before .before .before .b .given .0 .1 .0)) (c .pack .ensures ∙ ap (word 33 (c .before .before .before .before .before .before .before .before .before .args .n) (c .before .before .before .before .before .before .before .before .before .args .m - c .before .before .before .before .before .before .before .before .before .args .n - 1)) (c .before .place .ensures))))
 
@@ -64,10 +47,10 @@ pub finish-spec : {M : Type 1} → statement M
 finish-spec =
     tie.close
     (tie.spec
-    enum-known-b
-    enum-told
+    (λ c. search needs)
+    (λ c. search needs)
     returns
-    kind-at-requires
+    (λ c κs. search needs)
     returns-2
     sub-pack
     sub-pack-2
@@ -77,5 +60,5 @@ finish-spec =
     slice-write-words
     add-t12
     add-t16
-    same-length
+    (λ c. search needs)
     returns-3)

@@ -2,19 +2,13 @@ use borrow.Author.Needs.{needs}
 use native.Mathlib.Omega.{arith}
 use Prim.Native.Nat.{ℕ}
 use mathlib.Core.List.{List}
-use mathlib.Core.Path.{_≡_, refl, sym, ap, _∙_}
-use lib.ListN.{length, length-set}
+use mathlib.Core.Path.{sym, _∙_}
+use lib.ListN.{length-set}
 use Rattle.expressions.proofs.OperatorLaws.{left}
 use Rattle.simple.proofs.ItemLaws.{IsPrinting, print-starts, print-stops, print-span, print-unended, print-ends, print-on, item-less}
 use Rattle.terms.proofs.TokenLaws.{kind-within}
 use Rattle.simple.proofs.print.Statement.{statement}
 use Rattle.simple.proofs.print.Tie as tie
-use Rattle.simple.proofs.print.Reads as reads
-use Rattle.simple.proofs.print.Lts as lts
-use Rattle.simple.proofs.item.Reads as item-reads
-use Rattle.simple.proofs.place.Reads as place-reads
-use Rattle.terms.proofs.kind_at.Reads as kind-at-reads
-use Rattle.words.proofs.pack.Reads as pack-reads
 
 abbrev Inv-loop : tie.InvT-loop
 Inv-loop tokens words₀ p n d a₀ words a = (A : List ℕ) → IsPrinting tokens p n d A words₀ a₀ → IsPrinting tokens p n d A words a
@@ -22,29 +16,17 @@ Inv-loop tokens words₀ p n d a₀ words a = (A : List ℕ) → IsPrinting toke
 abbrev μ-loop : tie.MeasureT-loop
 μ-loop tokens words₀ p n d a₀ words a = left tokens a
 
-add-item : tie.Need-add-item Inv-loop μ-loop
-add-item c = omega arith
-
 item-requires : tie.Need-item-requires Inv-loop μ-loop
 item-requires c κs = let l = kind-within (c .before .before .before .args .tokens .now) (c .before .before .before .args .p) (omega arith) in omega arith
 
 loop-holds : tie.Need-loop-holds Inv-loop μ-loop
 loop-holds c = λ A h. h
 
-enum-known-a : tie.Need-enum-known-a Inv-loop μ-loop
-enum-known-a c = search needs
-
-enum-told : tie.Need-enum-told Inv-loop μ-loop
-enum-told c = search needs
-
 same-length : tie.Need-same-length Inv-loop μ-loop
 same-length c = (c .before .before .loop .inv (c .before .before .before .before .before .before .before .before .before .args .words .now) (print-starts (c .before .before .before .before .before .before .before .before .before .pre .1 .1 .nest) (c .before .before .before .before .before .before .before .before .before .pre .0) (c .before .before .before .before .before .item .ensures) (c .before .before .before .before .before .item .kept .1 .0))) .long
 
 returns : tie.Need-returns Inv-loop μ-loop
 returns c = print-stops (c .before .before .before .before .before .before .before .before .before .pre .1 .1 .nest) (c .before .before .before .before .before .before .before .before .before .pre .0) (c .before .before .loop .inv (c .before .before .before .before .before .before .before .before .before .args .words .now) (print-starts (c .before .before .before .before .before .before .before .before .before .pre .1 .1 .nest) (c .before .before .before .before .before .before .before .before .before .pre .0) (c .before .before .before .before .before .item .ensures) (c .before .before .before .before .before .item .kept .1 .0))) (c .enum-told .given .1)
-
-kind-at-requires : tie.Need-kind-at-requires Inv-loop μ-loop
-kind-at-requires c κs = search needs
 
 place-requires : tie.Need-place-requires Inv-loop μ-loop
 place-requires c κs = let l = kind-within (c .before .before .before .before .before .before .before .before .before .before .before .before .args .tokens .now) (c .before .before .before .before .before .before .before .before .before .before .before .before .args .p) (omega (arith, c .before .before .before .before .before .before .before .before .before .before .before .before .pre .0)) in omega arith
@@ -94,14 +76,14 @@ print-spec =
     (tie.spec
     Inv-loop
     μ-loop
-    add-item
+    (λ c. omega arith)
     item-requires
     loop-holds
-    enum-known-a
-    enum-told
+    (λ c. search needs)
+    (λ c. search needs)
     same-length
     returns
-    kind-at-requires
+    (λ c κs. search needs)
     place-requires
     pack-requires
     mul-words

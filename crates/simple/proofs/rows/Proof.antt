@@ -1,16 +1,10 @@
 use Prim.Native.Nat.{ℕ}
 use lib.ListN.{set}
 use native.Mathlib.Omega.{arith}
-use mathlib.Core.Path.{_≡_, refl, sym, ap}
+use mathlib.Core.Path.{refl, ap}
 use borrow.Author.Needs.{needs}
 use Rattle.simple.proofs.rows.Statement.{statement}
 use Rattle.simple.proofs.rows.Tie as tie
-use Rattle.simple.proofs.rows.Reads as reads
-use Rattle.simple.proofs.rows.Lts as lts
-use Rattle.words.proofs.pack.Reads as pack-reads
-
-enum-known-a : tie.Need-enum-known-a
-enum-known-a c = search needs
 
 pack-requires : tie.Need-pack-requires
 pack-requires c κs = let s = rw (c .before .a .given .1) at (c .before .before .before .before .pre) in omega arith
@@ -24,12 +18,6 @@ slice-write-words c = let s = rw (c .before .before .a .given .1) at (c .before 
 add-t12 : tie.Need-add-t12
 add-t12 c = let s = rw (c .before .before .a .given .1) at (c .before .before .before .before .before .pre) in omega arith
 
-enum-known-a-2 : tie.Need-enum-known-a-2
-enum-known-a-2 c = search needs
-
-same-length : tie.Need-same-length
-same-length c = search needs
-
 returns : tie.Need-returns
 returns c = rw (c .before .before .a .given .1) (refl, ap (λ (w : ℕ). set (c .before .before .before .before .before .args .words .now) (c .before .before .a .given .0 .1 .0) w) (c .pack .ensures))
 
@@ -40,12 +28,12 @@ pub rows-spec : {M : Type 1} → statement M
 rows-spec =
     tie.close
     (tie.spec
-    enum-known-a
+    (λ c. search needs)
     pack-requires
     mul-words
     slice-write-words
     add-t12
-    enum-known-a-2
-    same-length
+    (λ c. search needs)
+    (λ c. search needs)
     returns
     returns-2)

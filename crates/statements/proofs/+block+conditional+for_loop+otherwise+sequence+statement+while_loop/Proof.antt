@@ -1,13 +1,13 @@
 use borrow.Author.Needs.{needs}
 use native.Mathlib.Omega.{arith}
 use mathlib.Core.List.{List}
-use mathlib.Core.Path.{_≡_, refl, sym, ap, subst, _∙_}
+use mathlib.Core.Path.{sym, _∙_}
 use Prim.Native.Nat.{_+_, _*_, _-_}
 use lib.ListN.{length}
 use Rattle.expressions.proofs.OperatorLaws.{left, paid-of}
 use Rattle.statements.proofs.SequenceLaws.{no-statement, IsSofar, sequence-starts, sequence-stops, sequence-span, sequence-ends, sequence-on, sequence-less, begins-not, begins-so}
 use Rattle.statements.proofs.BlockLaws.{block-open, block-deep, block-closes, nested, else-none, else-some}
-use Rattle.statements.proofs.CompoundLaws.{block-span, an-if, a-while, a-for, test-refused, block-refused, for-open, heads, loop-room, tested-room, while-ends, for-ends, if-ends}
+use Rattle.statements.proofs.CompoundLaws.{block-span, an-if, a-while, a-for, test-refused, block-refused, for-open, heads, while-ends, for-ends, else-refused, else-span, if-ends}
 use Rattle.terms.proofs.TokenLaws.{kind-within}
 use Prim.Native.Nat.{ℕ, _<_}
 use borrow.Fn.Kinds.{In}
@@ -37,11 +37,11 @@ use Rattle.expressions.proofs.comparison.Reads as comparison-reads
 use Rattle.simple.proofs.assignment.Reads as assignment-reads
 use Rattle.simple.proofs.print.Reads as print-reads
 use Rattle.statements.proofs.begins.Reads as begins-reads
-use Rattle.statements.proofs.close_block.Reads as close-block-reads
 use Rattle.statements.proofs.heading.Reads as heading-reads
 use Rattle.statements.proofs.ranged.Reads as ranged-reads
 use Rattle.statements.proofs.repeated.Reads as repeated-reads
 use Rattle.statements.proofs.tested.Reads as tested-reads
+use Rattle.terms.proofs.close.Reads as close-reads
 use Rattle.terms.proofs.kind_at.Reads as kind-at-reads
 use Rattle.statements.proofs.+block+conditional+for_loop+otherwise+sequence+statement+while_loop.{
   statement,
@@ -122,7 +122,7 @@ while-loop-below t =
     and 2 while-loop-kinds.ps (falls 2 while-loop-kinds.ps _<_ μ-while-loop t) while-loop.Pre
 
 abbrev block-with : ℕ → block-lts.Claims
-block-with t = (kind-at-reads.Asked, kind-at-reads.Learnt, sequence-below t, sequence.Post, close-block-reads.Asked, close-block-reads.Learnt)
+block-with t = (kind-at-reads.Asked, kind-at-reads.Learnt, sequence-below t, sequence.Post, close-reads.Asked, close-reads.Learnt)
 
 abbrev conditional-with : ℕ → conditional-lts.Claims
 conditional-with t = (comparison-reads.Asked, comparison-reads.Learnt, block-below t, block.Post, otherwise-below t, otherwise.Post, tested-reads.Asked, tested-reads.Learnt)
@@ -152,7 +152,7 @@ block-sequence-requires : (t : ℕ) → block-lts.Need-sequence-requires (block-
 block-sequence-requires t c κs = let l = kind-within (c .before .before .before .before .before .before .args .tokens .now) (c .before .before .before .before .before .before .args .p) (omega (arith, c .before .before .before .kind-at .ensures, c .before .before .if1 .left)) in (omega arith, (c .before .before .before .before .before .before .pre .1 .0, omega arith))
 
 block-returns-3 : (t : ℕ) → block-lts.Need-returns-3 (block-with t) (block-at t) block.Post
-block-returns-3 t c = block-closes (c .before .before .before .before .before .if2 .left) (sym (c .before .before .before .before .before .before .before .kind-at .ensures) ∙ c .before .before .before .before .before .before .if1 .left) (c .before .before .before .sequence .ensures) (c .close-block .ensures)
+block-returns-3 t c = block-closes (c .before .before .before .before .before .if2 .left) (sym (c .before .before .before .before .before .before .before .kind-at .ensures) ∙ c .before .before .before .before .before .before .if1 .left) (c .before .before .before .sequence .ensures) (c .close .ensures)
 
 conditional-comparison-requires : (t : ℕ) → conditional-lts.Need-comparison-requires (conditional-with t) (conditional-at t) conditional.Post
 conditional-comparison-requires t c κs = let l = kind-within (c .before .before .before .args .tokens .now) (c .before .before .before .args .p) (omega (arith, c .before .before .before .pre .1 .0)) in omega arith
@@ -175,11 +175,14 @@ conditional-add-otherwise t c = let o = paid-of (c .before .before .before .befo
 conditional-otherwise-requires : (t : ℕ) → conditional-lts.Need-otherwise-requires (conditional-with t) (conditional-at t) conditional.Post
 conditional-otherwise-requires t c κs = let o = paid-of (c .before .before .before .before .before .before .before .before .before .before .before .before .before .comparison .ensures) (c .before .before .before .before .before .before .before .before .before .a .given .1) in let o′ = block-span (c .before .before .before .before .before .before .block .ensures) (c .before .before .b .given .1) in let l = kind-within (c .before .before .before .before .before .before .before .before .before .before .before .before .before .before .before .before .before .args .tokens .now) (c .before .before .before .before .before .before .before .before .before .before .before .before .before .before .before .before .before .args .p) (omega (arith, c .before .before .before .before .before .before .before .before .before .before .before .before .before .before .before .before .before .pre .1 .0)) in (omega arith, (c .before .before .before .before .before .before .before .before .before .before .before .before .before .before .before .before .before .pre .1 .1 .0, omega arith))
 
-conditional-tested-requires : (t : ℕ) → conditional-lts.Need-tested-requires (conditional-with t) (conditional-at t) conditional.Post
-conditional-tested-requires t c κs = let o = paid-of (c .before .before .before .before .before .before .before .before .before .before .before .before .before .before .before .before .before .comparison .ensures) (c .before .before .before .before .before .before .before .before .before .before .before .before .before .a .given .1) in let o′ = block-span (c .before .before .before .before .before .before .before .before .before .before .block .ensures) (c .before .before .before .before .before .before .b .given .1) in let l = kind-within (c .before .before .before .before .before .before .before .before .before .before .before .before .before .before .before .before .before .before .before .before .before .args .tokens .now) (c .before .before .before .before .before .before .before .before .before .before .before .before .before .before .before .before .before .before .before .before .before .args .p) (omega (arith, c .before .before .before .before .before .before .before .before .before .before .before .before .before .before .before .before .before .before .before .before .before .pre .1 .0)) in tested-room (c .before .before .before .before .before .before .before .before .before .before .before .before .before .before .before .before .before .before .before .before .before .pre .1 .1 .0) l (omega arith) (omega arith) (omega (arith, c .before .before .before .before .before .before .before .before .before .before .before .before .before .before .before .before .before .before .before .before .before .pre .1 .1 .1 .used)) (o′ .within) (c .before .before .before .before .before .before .before .before .before .before .before .before .before .before .before .before .before .before .before .before .before .pre .1 .1 .1 .small) (omega (arith, c .before .before .before .before .before .before .before .before .before .before .before .before .before .before .before .before .before .before .before .before .before .pre .1 .1 .1 .room, c .before .before .before .otherwise .kept .1 .0, c .before .before .before .before .before .before .before .before .before .before .block .kept .1 .0, c .before .before .before .before .before .before .before .before .before .before .before .before .before .before .before .before .before .comparison .kept .1 .0)) (c .before .before .before .otherwise .ensures)
-
 conditional-returns-3 : (t : ℕ) → conditional-lts.Need-returns-3 (conditional-with t) (conditional-at t) conditional.Post
-conditional-returns-3 t c = if-ends (c .before .before .before .before .before .before .before .before .before .before .before .before .before .before .before .before .before .before .before .before .before .before .before .before .pre .1 .1 .1 .nest) (c .before .before .before .before .before .before .before .before .before .before .before .before .before .before .before .before .a .given .1) (c .before .before .before .before .before .before .before .before .before .before .before .before .before .before .before .before .before .before .before .before .before .before .before .before .pre .1 .0) (c .before .before .before .before .before .before .before .before .before .before .before .before .before .before .before .before .before .before .before .before .comparison .ensures) (c .before .before .before .before .before .before .before .before .before .before .before .before .before .block .ensures) (c .before .before .before .before .before .before .before .before .before .b .given .1) (c .before .before .before .before .before .before .otherwise .ensures) (c .before .before .tested .ensures)
+conditional-returns-3 t c = else-refused (c .before .before .before .before .before .before .before .before .before .before .before .before .before .before .before .before .before .before .before .before .before .before .pre .1 .1 .1 .nest) (c .before .before .before .before .before .before .before .before .before .before .before .before .before .before .a .given .1) (c .before .before .before .before .before .before .before .before .before .before .before .before .before .before .before .before .before .before .before .before .before .before .pre .1 .0) (c .before .before .before .before .before .before .before .before .before .before .before .before .before .before .before .before .before .before .comparison .ensures) (c .before .before .before .before .before .before .before .before .before .before .before .block .ensures) (c .before .before .before .before .before .before .before .b .given .1) (c .before .before .before .before .otherwise .ensures) (c .enum-told3 .given .1)
+
+conditional-tested-requires : (t : ℕ) → conditional-lts.Need-tested-requires (conditional-with t) (conditional-at t) conditional.Post
+conditional-tested-requires t c κs = let o = paid-of (c .before .before .before .before .before .before .before .before .before .before .before .before .before .before .before .before .before .before .before .before .comparison .ensures) (c .before .before .before .before .before .before .before .before .before .before .before .before .before .before .before .before .a .given .1) in let o′ = block-span (c .before .before .before .before .before .before .before .before .before .before .before .before .before .block .ensures) (c .before .before .before .before .before .before .before .before .before .b .given .1) in let o″ = else-span (c .before .before .before .before .before .before .otherwise .ensures) (c .before .before .c .given .1) in let l = kind-within (c .before .before .before .before .before .before .before .before .before .before .before .before .before .before .before .before .before .before .before .before .before .before .before .before .args .tokens .now) (c .before .before .before .before .before .before .before .before .before .before .before .before .before .before .before .before .before .before .before .before .before .before .before .before .args .p) (omega (arith, c .before .before .before .before .before .before .before .before .before .before .before .before .before .before .before .before .before .before .before .before .before .before .before .before .pre .1 .0)) in let i = c .before .before .before .before .before .before .before .before .before .before .before .before .before .before .before .before .before .before .before .before .before .before .before .before .pre .1 .1 .0 .small (c .before .before .before .before .before .before .before .before .before .before .before .before .before .before .before .before .before .before .before .before .before .before .before .before .args .p) in omega (arith, c .before .before .before .before .before .before .before .before .before .before .before .before .before .before .before .before .before .before .before .before .before .before .before .before .pre .1 .1 .1 .small, c .before .before .before .before .before .before .before .before .before .before .before .before .before .before .before .before .before .before .before .before .before .before .before .before .pre .1 .1 .1 .room, c .before .before .before .before .before .before .before .before .before .before .before .before .before .before .before .before .before .before .before .before .before .before .before .before .pre .1 .1 .1 .used, c .before .before .before .before .before .before .otherwise .kept .1 .0, c .before .before .before .before .before .before .before .before .before .before .before .before .before .block .kept .1 .0, c .before .before .before .before .before .before .before .before .before .before .before .before .before .before .before .before .before .before .before .before .comparison .kept .1 .0)
+
+conditional-returns-4 : (t : ℕ) → conditional-lts.Need-returns-4 (conditional-with t) (conditional-at t) conditional.Post
+conditional-returns-4 t c = if-ends (c .before .before .before .before .before .before .before .before .before .before .before .before .before .before .before .before .before .before .before .before .before .before .before .before .before .before .before .pre .1 .1 .1 .nest) (c .before .before .before .before .before .before .before .before .before .before .before .before .before .before .before .before .before .before .before .a .given .1) (c .before .before .before .before .before .before .before .before .before .before .before .before .before .before .before .before .before .before .before .before .before .before .before .before .before .before .before .pre .1 .0) (c .before .before .before .before .before .before .before .before .before .before .before .before .before .before .before .before .before .before .before .before .before .before .before .comparison .ensures) (c .before .before .before .before .before .before .before .before .before .before .before .before .before .before .before .before .block .ensures) (c .before .before .before .before .before .before .before .before .before .before .before .before .b .given .1) (c .before .before .before .before .before .before .before .before .before .otherwise .ensures) (c .before .before .before .before .before .c .given .1) (c .before .before .tested .ensures)
 
 for-loop-heading-requires : (t : ℕ) → for-loop-lts.Need-heading-requires (for-loop-with t) (for-loop-at t) for-loop.Post
 for-loop-heading-requires t c κs = let l = kind-within (c .before .before .before .args .tokens .now) (c .before .before .before .args .p) (omega (arith, c .before .before .before .pre .1 .0)) in omega arith
@@ -199,11 +202,14 @@ for-loop-add-block t c = let o = paid-of (c .before .before .before .before .bef
 for-loop-block-requires : (t : ℕ) → for-loop-lts.Need-block-requires (for-loop-with t) (for-loop-at t) for-loop.Post
 for-loop-block-requires t c κs = let o = paid-of (c .before .before .before .before .before .before .comparison .ensures) (c .before .before .a .given .1) in let l = kind-within (c .before .before .before .before .before .before .before .before .before .before .before .before .before .before .before .args .tokens .now) (c .before .before .before .before .before .before .before .before .before .before .before .before .before .before .before .args .p) (omega (arith, c .before .before .before .before .before .before .before .before .before .before .before .before .before .before .before .pre .1 .0)) in (omega arith, (c .before .before .before .before .before .before .before .before .before .before .before .before .before .before .before .pre .1 .1 .0, omega arith))
 
-for-loop-ranged-requires : (t : ℕ) → for-loop-lts.Need-ranged-requires (for-loop-with t) (for-loop-at t) for-loop.Post
-for-loop-ranged-requires t c κs = let o = paid-of (c .before .before .before .before .before .before .before .before .before .before .comparison .ensures) (c .before .before .before .before .before .before .a .given .1) in let l = kind-within (c .before .before .before .before .before .before .before .before .before .before .before .before .before .before .before .before .before .before .before .args .tokens .now) (c .before .before .before .before .before .before .before .before .before .before .before .before .before .before .before .before .before .before .before .args .p) (omega (arith, c .before .before .before .before .before .before .before .before .before .before .before .before .before .before .before .before .before .before .before .pre .1 .0)) in loop-room (c .before .before .before .before .before .before .before .before .before .before .before .before .before .before .before .before .before .before .before .pre .1 .1 .0) l (omega arith) (omega arith) (omega arith) (omega arith) (c .before .before .before .block .ensures)
-
 for-loop-returns-3 : (t : ℕ) → for-loop-lts.Need-returns-3 (for-loop-with t) (for-loop-at t) for-loop.Post
-for-loop-returns-3 t c = for-ends (c .before .before .before .before .before .before .before .before .before .before .before .before .before .before .before .before .before .before .before .before .before .before .pre .1 .1 .1 .nest) (c .before .before .before .before .before .before .before .before .before .a .given .1) (c .before .before .before .before .before .before .before .before .before .before .before .before .before .before .before .before .before .before .before .before .before .before .pre .1 .0) (heads (c .before .before .before .before .before .before .before .before .before .before .before .before .before .before .before .before .before .before .heading .ensures) (c .before .before .before .before .before .before .before .before .before .before .before .before .before .before .before .if1 .left)) (c .before .before .before .before .before .before .before .before .before .before .before .before .before .comparison .ensures) (c .before .before .before .before .before .before .block .ensures) (c .before .before .ranged .ensures)
+for-loop-returns-3 t c = let u = heads (c .before .before .before .before .before .before .before .before .before .before .before .before .before .before .before .before .heading .ensures) (c .before .before .before .before .before .before .before .before .before .before .before .before .before .if1 .left) in block-refused (a-for _ _ _ (c .before .before .before .before .before .before .before .before .before .before .before .before .before .before .before .before .before .before .before .before .pre .1 .1 .1 .nest) (c .before .before .before .before .before .before .before .before .before .before .before .before .before .before .before .before .before .before .before .before .pre .1 .0) (u .name) (u .in′)) (c .before .before .before .before .before .before .before .before .before .before .before .comparison .ensures) (c .before .before .before .before .before .before .before .a .given .1) (c .before .before .before .before .block .ensures) (c .enum-told2 .given .1)
+
+for-loop-ranged-requires : (t : ℕ) → for-loop-lts.Need-ranged-requires (for-loop-with t) (for-loop-at t) for-loop.Post
+for-loop-ranged-requires t c κs = let o = paid-of (c .before .before .before .before .before .before .before .before .before .before .before .before .before .comparison .ensures) (c .before .before .before .before .before .before .before .before .before .a .given .1) in let o′ = block-span (c .before .before .before .before .before .before .block .ensures) (c .before .before .b .given .1) in let l = kind-within (c .before .before .before .before .before .before .before .before .before .before .before .before .before .before .before .before .before .before .before .before .before .before .args .tokens .now) (c .before .before .before .before .before .before .before .before .before .before .before .before .before .before .before .before .before .before .before .before .before .before .args .p) (omega (arith, c .before .before .before .before .before .before .before .before .before .before .before .before .before .before .before .before .before .before .before .before .before .before .pre .1 .0)) in let i = c .before .before .before .before .before .before .before .before .before .before .before .before .before .before .before .before .before .before .before .before .before .before .pre .1 .1 .0 .small (c .before .before .before .before .before .before .before .before .before .before .before .before .before .before .before .before .before .before .before .before .before .before .args .p) in omega (arith, c .before .before .before .before .before .before .block .kept .1 .0, c .before .before .before .before .before .before .before .before .before .before .before .before .before .comparison .kept .1 .0, c .before .before .before .before .before .before .before .before .before .before .before .before .before .before .before .before .before .before .heading .kept .1 .0)
+
+for-loop-returns-4 : (t : ℕ) → for-loop-lts.Need-returns-4 (for-loop-with t) (for-loop-at t) for-loop.Post
+for-loop-returns-4 t c = for-ends (c .before .before .before .before .before .before .before .before .before .before .before .before .before .before .before .before .before .before .before .before .before .before .before .before .before .pre .1 .1 .1 .nest) (c .before .before .before .before .before .before .before .before .before .before .before .before .a .given .1) (c .before .before .before .before .before .before .before .before .before .before .before .before .before .before .before .before .before .before .before .before .before .before .before .before .before .pre .1 .0) (heads (c .before .before .before .before .before .before .before .before .before .before .before .before .before .before .before .before .before .before .before .before .before .heading .ensures) (c .before .before .before .before .before .before .before .before .before .before .before .before .before .before .before .before .before .before .if1 .left)) (c .before .before .before .before .before .before .before .before .before .before .before .before .before .before .before .before .comparison .ensures) (c .before .before .before .before .before .before .before .before .before .block .ensures) (c .before .before .before .before .before .b .given .1) (c .before .before .ranged .ensures)
 
 otherwise-returns : (t : ℕ) → otherwise-lts.Need-returns (otherwise-with t) (otherwise-at t) otherwise.Post
 otherwise-returns t c = else-none (omega arith) (λ e. c .if1 .taken (c .before .kind-at .ensures ∙ e))
@@ -220,29 +226,30 @@ sequence-Inv-loop tokens words₀ p n d a₀ words a = (A : List ℕ) → IsSofa
 abbrev sequence-μ-loop : sequence-lts.MeasureT-loop
 sequence-μ-loop tokens words₀ p n d a₀ words a = left tokens a
 
+-- what the loop has read
+sequence-sofar : (t : ℕ) (c : sequence-lts.At-loop (sequence-with t) (sequence-at t) sequence.Post sequence-Inv-loop sequence-μ-loop) → IsSofar (c .before .before .before .before .before .before .before .args .tokens .now) (c .before .before .before .before .before .before .before .args .p) (c .before .before .before .before .before .before .before .args .n) (c .before .before .before .before .before .before .before .args .d) (c .before .before .before .before .before .before .before .args .words .now) (c .loop .words) (c .loop .a)
+sequence-sofar t c = c .loop .inv (c .before .before .before .before .before .before .before .args .words .now) (sequence-starts (c .before .before .before .before .before .before .before .pre .1 .1 .nest) (c .before .before .before .before .before .before .before .pre .1 .1 .place) (c .before .before .before .statement .ensures) (c .before .before .before .statement .kept .1 .0))
+
 sequence-statement-requires : (t : ℕ) → sequence-lts.Need-statement-requires (sequence-with t) (sequence-at t) sequence.Post sequence-Inv-loop sequence-μ-loop
 sequence-statement-requires t c κs = (omega arith, (c .before .before .before .pre .1 .0, omega arith))
 
-sequence-loop-holds : (t : ℕ) → sequence-lts.Need-loop-holds (sequence-with t) (sequence-at t) sequence.Post sequence-Inv-loop sequence-μ-loop
-sequence-loop-holds t c = λ A h. h
-
 sequence-same-length : (t : ℕ) → sequence-lts.Need-same-length (sequence-with t) (sequence-at t) sequence.Post sequence-Inv-loop sequence-μ-loop
-sequence-same-length t c = let h = c .before .before .loop .inv (c .before .before .before .before .before .before .before .before .before .args .words .now) (sequence-starts (c .before .before .before .before .before .before .before .before .before .pre .1 .1 .nest) (c .before .before .before .before .before .before .before .before .before .pre .1 .1 .place) (c .before .before .before .before .before .statement .ensures) (c .before .before .before .before .before .statement .kept .1 .0)) in h .long
+sequence-same-length t c = sequence-sofar t (c .before .before) .long
 
 sequence-returns : (t : ℕ) → sequence-lts.Need-returns (sequence-with t) (sequence-at t) sequence.Post sequence-Inv-loop sequence-μ-loop
-sequence-returns t c = let h = c .before .before .loop .inv (c .before .before .before .before .before .before .before .before .before .args .words .now) (sequence-starts (c .before .before .before .before .before .before .before .before .before .pre .1 .1 .nest) (c .before .before .before .before .before .before .before .before .before .pre .1 .1 .place) (c .before .before .before .before .before .statement .ensures) (c .before .before .before .before .before .statement .kept .1 .0)) in sequence-stops (c .before .before .before .before .before .before .before .before .before .pre .1 .1 .nest) h (c .enum-told .given .1)
+sequence-returns t c = let h = sequence-sofar t (c .before .before) in sequence-stops (c .before .before .before .before .before .before .before .before .before .pre .1 .1 .nest) h (c .enum-told .given .1)
 
 sequence-same-length-2 : (t : ℕ) → sequence-lts.Need-same-length-2 (sequence-with t) (sequence-at t) sequence.Post sequence-Inv-loop sequence-μ-loop
-sequence-same-length-2 t c = let h = c .before .before .before .before .before .loop .inv (c .before .before .before .before .before .before .before .before .before .before .before .before .args .words .now) (sequence-starts (c .before .before .before .before .before .before .before .before .before .before .before .before .pre .1 .1 .nest) (c .before .before .before .before .before .before .before .before .before .before .before .before .pre .1 .1 .place) (c .before .before .before .before .before .before .before .before .statement .ensures) (c .before .before .before .before .before .before .before .before .statement .kept .1 .0)) in h .long
+sequence-same-length-2 t c = sequence-sofar t (c .before .before .before .before .before) .long
 
 sequence-returns-2 : (t : ℕ) → sequence-lts.Need-returns-2 (sequence-with t) (sequence-at t) sequence.Post sequence-Inv-loop sequence-μ-loop
-sequence-returns-2 t c = let h = c .before .before .before .before .before .loop .inv (c .before .before .before .before .before .before .before .before .before .before .before .before .args .words .now) (sequence-starts (c .before .before .before .before .before .before .before .before .before .before .before .before .pre .1 .1 .nest) (c .before .before .before .before .before .before .before .before .before .before .before .before .pre .1 .1 .place) (c .before .before .before .before .before .before .before .before .statement .ensures) (c .before .before .before .before .before .before .before .before .statement .kept .1 .0)) in sequence-ends (c .before .before .before .before .before .before .before .before .before .before .before .before .pre .1 .1 .nest) h (c .before .before .before .a .given .1) (begins-not (c .before .begins .result) (c .if1 .taken) (c .before .begins .ensures))
+sequence-returns-2 t c = let h = sequence-sofar t (c .before .before .before .before .before) in sequence-ends (c .before .before .before .before .before .before .before .before .before .before .before .before .pre .1 .1 .nest) h (c .before .before .before .a .given .1) (begins-not (c .before .begins .result) (c .if1 .taken) (c .before .begins .ensures))
 
 sequence-statement-requires-2 : (t : ℕ) → sequence-lts.Need-statement-requires-2 (sequence-with t) (sequence-at t) sequence.Post sequence-Inv-loop sequence-μ-loop
-sequence-statement-requires-2 t c κs = let h = c .before .before .before .before .before .before .loop .inv (c .before .before .before .before .before .before .before .before .before .before .before .before .before .args .words .now) (sequence-starts (c .before .before .before .before .before .before .before .before .before .before .before .before .before .pre .1 .1 .nest) (c .before .before .before .before .before .before .before .before .before .before .before .before .before .pre .1 .1 .place) (c .before .before .before .before .before .before .before .before .before .statement .ensures) (c .before .before .before .before .before .before .before .before .before .statement .kept .1 .0)) in let o = sequence-span (c .before .before .before .before .before .before .before .before .before .before .before .before .before .pre .1 .1 .nest) h (c .before .before .before .before .a .given .1) in (omega arith, (c .before .before .before .before .before .before .before .before .before .before .before .before .before .pre .1 .0, omega (arith, h .long)))
+sequence-statement-requires-2 t c κs = let h = sequence-sofar t (c .before .before .before .before .before .before) in let o = sequence-span (c .before .before .before .before .before .before .before .before .before .before .before .before .before .pre .1 .1 .nest) h (c .before .before .before .before .a .given .1) in (omega arith, (c .before .before .before .before .before .before .before .before .before .before .before .before .before .pre .1 .0, omega (arith, h .long)))
 
 sequence-loop-less : (t : ℕ) → sequence-lts.Need-loop-less (sequence-with t) (sequence-at t) sequence.Post sequence-Inv-loop sequence-μ-loop
-sequence-loop-less t c = let h = c .before .before .before .before .before .before .before .before .before .loop .inv (c .before .before .before .before .before .before .before .before .before .before .before .before .before .before .before .before .args .words .now) (sequence-starts (c .before .before .before .before .before .before .before .before .before .before .before .before .before .before .before .before .pre .1 .1 .nest) (c .before .before .before .before .before .before .before .before .before .before .before .before .before .before .before .before .pre .1 .1 .place) (c .before .before .before .before .before .before .before .before .before .before .before .before .statement .ensures) (c .before .before .before .before .before .before .before .before .before .before .before .before .statement .kept .1 .0)) in let o = sequence-span (c .before .before .before .before .before .before .before .before .before .before .before .before .before .before .before .before .pre .1 .1 .nest) h (c .before .before .before .before .before .before .before .a .given .1) in sequence-less (c .before .before .before .before .before .before .before .before .before .before .before .before .before .before .before .before .pre .1 .1 .nest) (o .within) (c .before .before .before .before .before .before .before .a .given .1) (c .before .before .statement2 .ensures)
+sequence-loop-less t c = let h = sequence-sofar t (c .before .before .before .before .before .before .before .before .before) in let o = sequence-span (c .before .before .before .before .before .before .before .before .before .before .before .before .before .before .before .before .pre .1 .1 .nest) h (c .before .before .before .before .before .before .before .a .given .1) in sequence-less (c .before .before .before .before .before .before .before .before .before .before .before .before .before .before .before .before .pre .1 .1 .nest) (o .within) (c .before .before .before .before .before .before .before .a .given .1) (c .before .before .statement2 .ensures)
 
 sequence-loop-again : (t : ℕ) → sequence-lts.Need-loop-again (sequence-with t) (sequence-at t) sequence.Post sequence-Inv-loop sequence-μ-loop
 sequence-loop-again t c = λ A s. let h = c .before .before .before .before .before .before .before .before .before .loop .inv A s in sequence-on (c .before .before .before .before .before .before .before .before .before .before .before .before .before .before .before .before .pre .1 .1 .nest) h (c .before .before .before .before .before .before .before .a .given .1) (begins-so (c .before .before .before .before .before .begins .result) (c .before .before .before .before .if1 .left) (c .before .before .before .before .before .begins .ensures)) (c .before .before .statement2 .ensures) (c .before .before .statement2 .kept .1 .0 ∙ h .long)
@@ -268,21 +275,6 @@ statement-assignment-requires t c κs = ((sym (c .before .before .kind-at .ensur
 statement-returns : (t : ℕ) → statement-lts.Need-returns (statement-with t) (statement-at t) statement′.Post
 statement-returns t c = nested (sym (c .before .before .before .before .before .kind-at .ensures) ∙ c .before .before .before .before .match .keys1) (c .before .before .block .ensures)
 
-statement-returns-2 : (t : ℕ) → statement-lts.Need-returns-2 (statement-with t) (statement-at t) statement′.Post
-statement-returns-2 t c = c .before .before .for-loop .ensures
-
-statement-returns-3 : (t : ℕ) → statement-lts.Need-returns-3 (statement-with t) (statement-at t) statement′.Post
-statement-returns-3 t c = c .before .before .conditional .ensures
-
-statement-returns-4 : (t : ℕ) → statement-lts.Need-returns-4 (statement-with t) (statement-at t) statement′.Post
-statement-returns-4 t c = c .before .before .print .ensures
-
-statement-returns-5 : (t : ℕ) → statement-lts.Need-returns-5 (statement-with t) (statement-at t) statement′.Post
-statement-returns-5 t c = c .before .before .while-loop .ensures
-
-statement-returns-6 : (t : ℕ) → statement-lts.Need-returns-6 (statement-with t) (statement-at t) statement′.Post
-statement-returns-6 t c = c .before .before .assignment .ensures
-
 statement-returns-7 : (t : ℕ) → statement-lts.Need-returns-7 (statement-with t) (statement-at t) statement′.Post
 statement-returns-7 t c = no-statement (omega arith) (record { no-name = λ e. c .match .rest .1 (c .before .kind-at .ensures ∙ e); no-if = λ e. c .match .rest .0 .0 .0 .1 (c .before .kind-at .ensures ∙ e); no-while = λ e. c .match .rest .0 .1 (c .before .kind-at .ensures ∙ e); no-for = λ e. c .match .rest .0 .0 .0 .0 .1 (c .before .kind-at .ensures ∙ e); no-brace = λ e. c .match .rest .0 .0 .0 .0 .0 .1 (c .before .kind-at .ensures ∙ e); no-print = λ e. c .match .rest .0 .0 .1 (c .before .kind-at .ensures ∙ e) })
 
@@ -298,11 +290,14 @@ while-loop-add-block t c = let o = paid-of (c .before .before .before .before .b
 while-loop-block-requires : (t : ℕ) → while-loop-lts.Need-block-requires (while-loop-with t) (while-loop-at t) while-loop.Post
 while-loop-block-requires t c κs = let o = paid-of (c .before .before .before .before .before .before .comparison .ensures) (c .before .before .a .given .1) in let l = kind-within (c .before .before .before .before .before .before .before .before .before .before .args .tokens .now) (c .before .before .before .before .before .before .before .before .before .before .args .p) (omega (arith, c .before .before .before .before .before .before .before .before .before .before .pre .1 .0)) in (omega arith, (c .before .before .before .before .before .before .before .before .before .before .pre .1 .1 .0, omega arith))
 
-while-loop-repeated-requires : (t : ℕ) → while-loop-lts.Need-repeated-requires (while-loop-with t) (while-loop-at t) while-loop.Post
-while-loop-repeated-requires t c κs = let o = paid-of (c .before .before .before .before .before .before .before .before .before .before .comparison .ensures) (c .before .before .before .before .before .before .a .given .1) in let l = kind-within (c .before .before .before .before .before .before .before .before .before .before .before .before .before .before .args .tokens .now) (c .before .before .before .before .before .before .before .before .before .before .before .before .before .before .args .p) (omega (arith, c .before .before .before .before .before .before .before .before .before .before .before .before .before .before .pre .1 .0)) in loop-room (c .before .before .before .before .before .before .before .before .before .before .before .before .before .before .pre .1 .1 .0) l (omega arith) (omega arith) (omega arith) (omega arith) (c .before .before .before .block .ensures)
-
 while-loop-returns-2 : (t : ℕ) → while-loop-lts.Need-returns-2 (while-loop-with t) (while-loop-at t) while-loop.Post
-while-loop-returns-2 t c = while-ends (c .before .before .before .before .before .before .before .before .before .before .before .before .before .before .before .before .before .pre .1 .1 .1 .nest) (c .before .before .before .before .before .before .before .before .before .a .given .1) (c .before .before .before .before .before .before .before .before .before .before .before .before .before .before .before .before .before .pre .1 .0) (c .before .before .before .before .before .before .before .before .before .before .before .before .before .comparison .ensures) (c .before .before .before .before .before .before .block .ensures) (c .before .before .repeated .ensures)
+while-loop-returns-2 t c = block-refused (a-while _ _ _ (c .before .before .before .before .before .before .before .before .before .before .before .before .before .before .before .pre .1 .1 .1 .nest) (c .before .before .before .before .before .before .before .before .before .before .before .before .before .before .before .pre .1 .0)) (c .before .before .before .before .before .before .before .before .before .before .before .comparison .ensures) (c .before .before .before .before .before .before .before .a .given .1) (c .before .before .before .before .block .ensures) (c .enum-told2 .given .1)
+
+while-loop-repeated-requires : (t : ℕ) → while-loop-lts.Need-repeated-requires (while-loop-with t) (while-loop-at t) while-loop.Post
+while-loop-repeated-requires t c κs = let o = paid-of (c .before .before .before .before .before .before .before .before .before .before .before .before .before .comparison .ensures) (c .before .before .before .before .before .before .before .before .before .a .given .1) in let o′ = block-span (c .before .before .before .before .before .before .block .ensures) (c .before .before .b .given .1) in let l = kind-within (c .before .before .before .before .before .before .before .before .before .before .before .before .before .before .before .before .before .args .tokens .now) (c .before .before .before .before .before .before .before .before .before .before .before .before .before .before .before .before .before .args .p) (omega (arith, c .before .before .before .before .before .before .before .before .before .before .before .before .before .before .before .before .before .pre .1 .0)) in let i = c .before .before .before .before .before .before .before .before .before .before .before .before .before .before .before .before .before .pre .1 .1 .0 .small (c .before .before .before .before .before .before .before .before .before .before .before .before .before .before .before .before .before .args .p) in omega (arith, c .before .before .before .before .before .before .block .kept .1 .0, c .before .before .before .before .before .before .before .before .before .before .before .before .before .comparison .kept .1 .0)
+
+while-loop-returns-3 : (t : ℕ) → while-loop-lts.Need-returns-3 (while-loop-with t) (while-loop-at t) while-loop.Post
+while-loop-returns-3 t c = while-ends (c .before .before .before .before .before .before .before .before .before .before .before .before .before .before .before .before .before .before .before .before .pre .1 .1 .1 .nest) (c .before .before .before .before .before .before .before .before .before .before .before .before .a .given .1) (c .before .before .before .before .before .before .before .before .before .before .before .before .before .before .before .before .before .before .before .before .pre .1 .0) (c .before .before .before .before .before .before .before .before .before .before .before .before .before .before .before .before .comparison .ensures) (c .before .before .before .before .before .before .before .before .before .block .ensures) (c .before .before .before .before .before .b .given .1) (c .before .before .repeated .ensures)
 
 pub +block+conditional+for-loop+otherwise+sequence+statement+while-loop-spec :
     {M : Type 1} → statement M
@@ -344,9 +339,13 @@ pub +block+conditional+for-loop+otherwise+sequence+statement+while-loop-spec :
     (conditional-returns-2 t)
     (conditional-add-otherwise t)
     (conditional-otherwise-requires t)
+    (λ c. search needs)
+    (λ c. search needs)
+    (λ c. search needs)
+    (conditional-returns-3 t)
     (conditional-tested-requires t)
     (λ c. search needs)
-    (conditional-returns-3 t))
+    (conditional-returns-4 t))
     (λ t. for-loop-lts.spec (for-loop-with t)
     (for-loop-at t)
     for-loop.Post
@@ -363,9 +362,14 @@ pub +block+conditional+for-loop+otherwise+sequence+statement+while-loop-spec :
     (for-loop-returns-2 t)
     (for-loop-add-block t)
     (for-loop-block-requires t)
-    (for-loop-ranged-requires t)
     (λ c. search needs)
-    (for-loop-returns-3 t))
+    (λ c. search needs)
+    (λ c. search needs)
+    (for-loop-returns-3 t)
+    (for-loop-ranged-requires t)
+    (λ c. let o = paid-of (c .before .before .before .before .before .before .before .before .before .before .before .before .before .before .before .before .comparison .ensures) (c .before .before .before .before .before .before .before .before .before .before .before .before .a .given .1) in let o′ = block-span (c .before .before .before .before .before .before .before .before .before .block .ensures) (c .before .before .before .before .before .b .given .1) in omega (arith, c .before .before .before .before .before .before .before .before .before .before .before .before .before .before .before .before .before .before .before .before .before .before .before .before .before .pre .1 .1 .1 .small, c .before .before .before .before .before .before .before .before .before .before .before .before .before .before .before .before .before .before .before .before .before .before .before .before .before .pre .1 .1 .1 .used))
+    (λ c. search needs)
+    (for-loop-returns-4 t))
     (λ t. otherwise-lts.spec (otherwise-with t)
     (otherwise-at t)
     otherwise.Post
@@ -381,7 +385,7 @@ pub +block+conditional+for-loop+otherwise+sequence+statement+while-loop-spec :
     sequence-Inv-loop
     sequence-μ-loop
     (sequence-statement-requires t)
-    (sequence-loop-holds t)
+    (λ c A h. h)
     (λ c. search needs)
     (λ c. search needs)
     (sequence-same-length t)
@@ -405,15 +409,15 @@ pub +block+conditional+for-loop+otherwise+sequence+statement+while-loop-spec :
     (λ c. search needs)
     (statement-returns t)
     (λ c. search needs)
-    (statement-returns-2 t)
+    (λ c. c .before .before .for-loop .ensures)
     (λ c. search needs)
-    (statement-returns-3 t)
+    (λ c. c .before .before .conditional .ensures)
     (λ c. search needs)
-    (statement-returns-4 t)
+    (λ c. c .before .before .print .ensures)
     (λ c. search needs)
-    (statement-returns-5 t)
+    (λ c. c .before .before .while-loop .ensures)
     (λ c. search needs)
-    (statement-returns-6 t)
+    (λ c. c .before .before .assignment .ensures)
     (statement-returns-7 t))
     λ t. while-loop-lts.spec (while-loop-with t)
     (while-loop-at t)
@@ -426,6 +430,11 @@ pub +block+conditional+for-loop+otherwise+sequence+statement+while-loop-spec :
     (while-loop-returns t)
     (while-loop-add-block t)
     (while-loop-block-requires t)
-    (while-loop-repeated-requires t)
+    (λ c. search needs)
+    (λ c. search needs)
     (λ c. search needs)
     (while-loop-returns-2 t)
+    (while-loop-repeated-requires t)
+    (λ c. let o = paid-of (c .before .before .before .before .before .before .before .before .before .before .before .before .before .before .before .before .comparison .ensures) (c .before .before .before .before .before .before .before .before .before .before .before .before .a .given .1) in let o′ = block-span (c .before .before .before .before .before .before .before .before .before .block .ensures) (c .before .before .before .before .before .b .given .1) in omega arith)
+    (λ c. search needs)
+    (while-loop-returns-3 t)

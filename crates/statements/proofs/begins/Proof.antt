@@ -3,12 +3,6 @@ use Rattle.statements.specs.Blocks.{a-name, an-if, a-while, a-for, a-bra
 use borrow.Author.Needs.{needs}
 use Rattle.statements.proofs.begins.Statement.{statement}
 use Rattle.statements.proofs.begins.Tie as tie
-use Rattle.statements.proofs.begins.Reads as reads
-use Rattle.statements.proofs.begins.Lts as lts
-use Rattle.terms.proofs.kind_at.Reads as kind-at-reads
-
-kind-at-requires : tie.Need-kind-at-requires
-kind-at-requires c κs = search needs
 
 returns : tie.Need-returns
 returns c = a-brace (sym (c .before .kind-at .ensures) ∙ c .match .keys1)
@@ -34,4 +28,4 @@ returns-7 c = record { no-name = λ e. c .match .rest .1 (c .before .kind-at .en
 pub begins-spec : {M : Type 1} → statement M
 begins-spec =
     tie.close
-    (tie.spec kind-at-requires returns returns-2 returns-3 returns-4 returns-5 returns-6 returns-7)
+    (tie.spec (λ c κs. search needs) returns returns-2 returns-3 returns-4 returns-5 returns-6 returns-7)

@@ -1,5 +1,4 @@
 use native.Mathlib.Omega.{arith}
-use mathlib.Core.Path.{_≡_, refl, sym, ap, _∙_}
 use Prim.Native.Nat.{_+_}
 use lib.ListN.{length-set}
 use Rattle.terms.proofs.AtomLaws.{listed-of, relation-fails, relation-reads}
@@ -7,28 +6,9 @@ use Rattle.terms.proofs.TokenLaws.{kind-within}
 use borrow.Author.Needs.{needs}
 use Rattle.terms.proofs.relation.Statement.{statement}
 use Rattle.terms.proofs.relation.Tie as tie
-use Rattle.terms.proofs.relation.Reads as reads
-use Rattle.terms.proofs.relation.Lts as lts
-use Rattle.terms.proofs.list.Reads as list-reads
-use Rattle.words.proofs.pack.Reads as pack-reads
-
-add-list : tie.Need-add-list
-add-list c = search needs
-
-add-list-2 : tie.Need-add-list-2
-add-list-2 c = search needs
 
 list-requires : tie.Need-list-requires
 list-requires c κs = let l = kind-within (c .before .before .before .args .tokens .now) (c .before .before .before .args .p + 1) (omega arith) in omega arith
-
-enum-known-a : tie.Need-enum-known-a
-enum-known-a c = search needs
-
-enum-told : tie.Need-enum-told
-enum-told c = search needs
-
-same-length : tie.Need-same-length
-same-length c = search needs
 
 returns : tie.Need-returns
 returns c = relation-fails (c .before .before .before .before .before .before .before .before .pre .0) (c .before .before .before .before .before .before .before .before .pre .1 .0) (c .before .before .before .before .list .ensures) (c .enum-told .given .1)
@@ -42,26 +22,14 @@ sub-k-2 c = let u = listed-of (c .before .before .before .before .before .list .
 pack-requires : tie.Need-pack-requires
 pack-requires c κs = let u = listed-of (c .before .before .before .before .before .list .ensures) (c .before .a .given .1) in omega arith
 
-mul-words : tie.Need-mul-words
-mul-words c = search needs
-
 slice-write-words : tie.Need-slice-write-words
 slice-write-words c = let u = listed-of (c .before .before .before .before .before .before .list .ensures) (c .before .before .a .given .1) in omega arith
 
 pack-requires-2 : tie.Need-pack-requires-2
 pack-requires-2 c κs = let u = listed-of (c .before .before .before .before .before .before .list .ensures) (c .before .before .a .given .1) in omega arith
 
-mul-words-2 : tie.Need-mul-words-2
-mul-words-2 c = search needs
-
 slice-write-words-2 : tie.Need-slice-write-words-2
 slice-write-words-2 c = let u = listed-of (c .before .before .before .before .before .before .before .list .ensures) (c .before .before .before .a .given .1) in simp length-set (omega arith)
-
-add-t11 : tie.Need-add-t11
-add-t11 c = search needs
-
-same-length-2 : tie.Need-same-length-2
-same-length-2 c = search needs
 
 returns-2 : tie.Need-returns-2
 returns-2 c = relation-reads (c .before .before .before .before .before .before .before .before .before .before .before .pre .0) (c .before .before .before .before .before .before .before .before .before .before .before .pre .1 .0) (c .before .before .before .before .before .before .before .list .ensures) (c .before .before .before .a .given .1) (c .before .pack .ensures) (c .pack2 .ensures)
@@ -70,21 +38,21 @@ pub relation-spec : {M : Type 1} → statement M
 relation-spec =
     tie.close
     (tie.spec
-    add-list
-    add-list-2
+    (λ c. search needs)
+    (λ c. search needs)
     list-requires
-    enum-known-a
-    enum-told
-    same-length
+    (λ c. search needs)
+    (λ c. search needs)
+    (λ c. search needs)
     returns
     sub-k
     sub-k-2
     pack-requires
-    mul-words
+    (λ c. search needs)
     slice-write-words
     pack-requires-2
-    mul-words-2
+    (λ c. search needs)
     slice-write-words-2
-    add-t11
-    same-length-2
+    (λ c. search needs)
+    (λ c. search needs)
     returns-2)
