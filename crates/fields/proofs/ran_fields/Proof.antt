@@ -1,43 +1,30 @@
 use mathlib.Core.Path.{sym, ap}
-use Rattle.relcalc_c.specs.Fields.{ran-fields}
+use Rattle.fields.specs.Fields.{ran-fields}
 use borrow.Author.Needs.{needs}
-use Rattle.relcalc_c.proofs.ran_fields.Statement.{statement}
-use Rattle.relcalc_c.proofs.ran_fields.Tie as tie
-use Rattle.relcalc_c.proofs.ran_fields.Reads as reads
-use Rattle.relcalc_c.proofs.ran_fields.Lts as lts
-use Rattle.answers.proofs.number.Reads as number-reads
-use Rattle.answers.proofs.place.Reads as place-reads
-use Rattle.relcalc_c.proofs.ending_number.Reads as ending-number-reads
+use Rattle.fields.proofs.ran_fields.Statement.{statement}
+use Rattle.fields.proofs.ran_fields.Tie as tie
 
--- src/lib.rt:138:20
 enum-known-a : tie.Need-enum-known-a
 enum-known-a c = search needs
 
--- src/lib.rt:143:25
 ending-number-requires : tie.Need-ending-number-requires
 ending-number-requires c κs = search needs
 
--- src/lib.rt:144:24
 cast-t7 : tie.Need-cast-t7
 cast-t7 c = search needs
 
--- src/lib.rt:148:22
 enum-known-a-2 : tie.Need-enum-known-a-2
 enum-known-a-2 c = search needs
 
--- src/lib.rt:149:22
 number-requires : tie.Need-number-requires
 number-requires c κs = search needs
 
--- src/lib.rt:150:20
 place-requires : tie.Need-place-requires
 place-requires c κs = search needs
 
--- src/lib.rt:134:1
 returns : tie.Need-returns
 returns c = rw (c .before .ending-number .ensures) (sym (ap ran-fields (c .before .before .before .a .given .1)))
 
--- src/lib.rt:134:1
 returns-2 : tie.Need-returns-2
 returns-2 c = rw (c .before .number .ensures, c .place .ensures) (sym (ap ran-fields (c .before .before .before .a2 .given .1)))
 

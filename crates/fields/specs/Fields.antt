@@ -1,11 +1,7 @@
 -- The answers of the calls as structs of numbers: `refusal` is 0 where the call succeeds, and fields that do not apply are 0.
-use Prim.Native.Nat.{ℕ}
-use mathlib.Core.Path.{_≡_}
 use mathlib.Core.List.{List, map}
-use Rattle.definition.specs.Text.{Text}
-use Rattle.definition.specs.Limits.{document-01}
 use Rattle.definition.specs.Answer.{number, place, ending-number}
-use Rattle.definition.specs.Calls.{Part, CheckMeets, RunMeets, ChainMeets}
+use Rattle.definition.specs.Calls.{Part}
 use Rattle.definition.specs.declared.Record.{Record}
 use Rattle.definition.specs.declared.Checked.{Checked}
 use Rattle.definition.specs.declared.Verdict.{Verdict}
@@ -14,11 +10,11 @@ use Rattle.definition.specs.declared.Ran.{Ran}
 use Rattle.definition.specs.declared.Ran.the-variants as Ran
 use Rattle.definition.specs.declared.Chained.{Chained}
 use Rattle.definition.specs.declared.Chained.the-variants as Chained
-use Rattle.relcalc_c.specs.declared.CRecord.{CRecord}
-use Rattle.relcalc_c.specs.declared.CChecked.{CChecked}
-use Rattle.relcalc_c.specs.declared.CRan.{CRan}
-use Rattle.relcalc_c.specs.declared.CPart.{CPart}
-use Rattle.relcalc_c.specs.declared.CChained.{CChained}
+use Rattle.fields.specs.declared.CRecord.{CRecord}
+use Rattle.fields.specs.declared.CChecked.{CChecked}
+use Rattle.fields.specs.declared.CRan.{CRan}
+use Rattle.fields.specs.declared.CPart.{CPart}
+use Rattle.fields.specs.declared.CChained.{CChained}
 
 abbrev pub record-fields : Record → CRecord
 record-fields r = record { text = r .text; offset = r .offset; length = r .length; arity = r .arity; first = r .first }
@@ -40,20 +36,3 @@ chained-fields (Chained.Refused q) = record { refusal = number q; place = place 
 
 abbrev pub part-fields : Part → CPart
 part-fields p = record { text = p .text; offset = p .offset; length = p .length }
-
--- Each call answers the fields of an answer that meets its definition.
-
-pub record CheckAnswers (facts query : Text) (r : CChecked) : Type 0 where
-  pub answer : Checked
-  pub meets : CheckMeets document-01 facts query answer
-  pub fields : r ≡ checked-fields answer
-
-pub record RunAnswers (facts query : Text) (budget : ℕ) (store : List ℕ) (output : Text) (r : CRan) (store′ : List ℕ) (output′ : Text) : Type 0 where
-  pub answer : Ran
-  pub meets : RunMeets document-01 facts query budget store output answer store′ output′
-  pub fields : r ≡ ran-fields answer
-
-pub record ChainAnswers (facts name first second : Text) (buffer : List ℕ) (r : CChained) (buffer′ : List ℕ) : Type 0 where
-  pub answer : Chained
-  pub meets : ChainMeets document-01 facts name first second buffer answer buffer′
-  pub fields : r ≡ chained-fields answer

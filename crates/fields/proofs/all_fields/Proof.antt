@@ -1,12 +1,9 @@
 use Prim.Native.Nat.{_-_, _≤_}
 use native.Mathlib.Omega.{arith}
 use borrow.Author.Needs.{needs}
-use Rattle.relcalc_c.proofs.Copies.{Copied, copied-none, copied-next, copied-all}
-use Rattle.relcalc_c.proofs.all_fields.Statement.{statement}
-use Rattle.relcalc_c.proofs.all_fields.Tie as tie
-use Rattle.relcalc_c.proofs.all_fields.Reads as reads
-use Rattle.relcalc_c.proofs.all_fields.Lts as lts
-use Rattle.relcalc_c.proofs.record_fields.Reads as record-fields-reads
+use Rattle.fields.proofs.Copies.{Copied, copied-none, copied-next, copied-all}
+use Rattle.fields.proofs.all_fields.Statement.{statement}
+use Rattle.fields.proofs.all_fields.Tie as tie
 
 abbrev Inv-loop : tie.InvT-loop
 Inv-loop rs cs₀ i₀ cs i = (i ≤ 16) × Copied rs cs i
@@ -14,43 +11,33 @@ Inv-loop rs cs₀ i₀ cs i = (i ≤ 16) × Copied rs cs i
 abbrev μ-loop : tie.MeasureT-loop
 μ-loop rs cs₀ i₀ cs i = 16 - i
 
--- src/lib.rt:91:5
 loop-holds : tie.Need-loop-holds Inv-loop μ-loop
 loop-holds c = (omega arith, copied-none (c .args .t1))
 
--- src/lib.rt:92:31
 mul-record-fields : tie.Need-mul-record-fields Inv-loop μ-loop
 mul-record-fields c = search needs
 
--- src/lib.rt:92:31
 array-copy-out-record-fields : tie.Need-array-copy-out-record-fields Inv-loop μ-loop
 array-copy-out-record-fields c = c .loop-test .taken
 
--- src/lib.rt:92:17
 record-fields-requires : tie.Need-record-fields-requires Inv-loop μ-loop
 record-fields-requires c κs = search needs
 
--- src/lib.rt:92:9
 mul-cs : tie.Need-mul-cs Inv-loop μ-loop
 mul-cs c = search needs
 
--- src/lib.rt:92:9
 array-set-from-cs : tie.Need-array-set-from-cs Inv-loop μ-loop
 array-set-from-cs c = c .before .before .loop-test .taken
 
--- src/lib.rt:93:9
 add-i : tie.Need-add-i Inv-loop μ-loop
 add-i c = search needs
 
--- src/lib.rt:91:5
 loop-less : tie.Need-loop-less Inv-loop μ-loop
 loop-less c = search needs
 
--- src/lib.rt:91:5
 loop-again : tie.Need-loop-again Inv-loop μ-loop
 loop-again c = let l = c .before .before .before .loop in (omega arith, rw (c .record-fields .ensures) (copied-next (c .before .before .before .before .args .t1) (l .cs) (l .i) (l .inv .1) _ (omega (arith, c .before .before .before .before .pre, c .before .before .loop-test .taken)) (c .before .before .loop-test .taken)))
 
--- src/lib.rt:78:1
 returns : tie.Need-returns Inv-loop μ-loop
 returns c = let l = c .before .loop in copied-all (c .before .before .args .t1) (l .cs) (l .i) (l .inv .1) (c .before .before .pre) (c .loop-test .left)
 

@@ -1,34 +1,24 @@
 use mathlib.Core.Path.{sym, ap}
-use Rattle.relcalc_c.specs.Fields.{chained-fields}
+use Rattle.fields.specs.Fields.{chained-fields}
 use borrow.Author.Needs.{needs}
-use Rattle.relcalc_c.proofs.chained_fields.Statement.{statement}
-use Rattle.relcalc_c.proofs.chained_fields.Tie as tie
-use Rattle.relcalc_c.proofs.chained_fields.Reads as reads
-use Rattle.relcalc_c.proofs.chained_fields.Lts as lts
-use Rattle.answers.proofs.number.Reads as number-reads
-use Rattle.answers.proofs.place.Reads as place-reads
+use Rattle.fields.proofs.chained_fields.Statement.{statement}
+use Rattle.fields.proofs.chained_fields.Tie as tie
 
--- src/lib.rt:158:24
 enum-known-a : tie.Need-enum-known-a
 enum-known-a c = search needs
 
--- src/lib.rt:163:26
 enum-known-a-2 : tie.Need-enum-known-a-2
 enum-known-a-2 c = search needs
 
--- src/lib.rt:164:22
 number-requires : tie.Need-number-requires
 number-requires c κs = search needs
 
--- src/lib.rt:165:20
 place-requires : tie.Need-place-requires
 place-requires c κs = search needs
 
--- src/lib.rt:154:1
 returns : tie.Need-returns
 returns c = sym (ap chained-fields (c .before .a .given .1))
 
--- src/lib.rt:154:1
 returns-2 : tie.Need-returns-2
 returns-2 c = rw (c .before .number .ensures, c .place .ensures) (sym (ap chained-fields (c .before .before .before .a2 .given .1)))
 

@@ -8,8 +8,8 @@ use lib.ListN.{length, getD, take, set, replicate, length-map}
 use lib.Seq.{take-suc, set-at, take-all, length-take-le}
 use Rattle.definition.specs.Calls.{no-record}
 use Rattle.definition.specs.declared.Record.{Record}
-use Rattle.relcalc_c.specs.declared.CRecord.{CRecord}
-use Rattle.relcalc_c.specs.Fields.{record-fields}
+use Rattle.fields.specs.declared.CRecord.{CRecord}
+use Rattle.fields.specs.Fields.{record-fields}
 
 -- the first i records are copied
 pub record Copied (rs : List Record) (cs : List CRecord) (i : ℕ) : Type 0 where

@@ -1,40 +1,28 @@
 use mathlib.Core.Path.{sym, ap}
 use mathlib.Core.List.{map}
-use Rattle.relcalc_c.specs.Fields.{record-fields, verdict-fields}
+use Rattle.fields.specs.Fields.{record-fields, verdict-fields}
 use borrow.Author.Needs.{needs}
-use Rattle.relcalc_c.proofs.checked_fields.Statement.{statement}
-use Rattle.relcalc_c.proofs.checked_fields.Tie as tie
-use Rattle.relcalc_c.proofs.checked_fields.Reads as reads
-use Rattle.relcalc_c.proofs.checked_fields.Lts as lts
-use Rattle.answers.proofs.number.Reads as number-reads
-use Rattle.answers.proofs.place.Reads as place-reads
-use Rattle.relcalc_c.proofs.all_fields.Reads as all-fields-reads
+use Rattle.fields.proofs.checked_fields.Statement.{statement}
+use Rattle.fields.proofs.checked_fields.Tie as tie
 
--- src/lib.rt:103:9
 all-fields-requires : tie.Need-all-fields-requires
 all-fields-requires c κs = search needs
 
--- src/lib.rt:106:27
 enum-known-v : tie.Need-enum-known-v
 enum-known-v c = search needs
 
--- src/lib.rt:114:26
 enum-known-v-2 : tie.Need-enum-known-v-2
 enum-known-v-2 c = search needs
 
--- src/lib.rt:115:22
 number-requires : tie.Need-number-requires
 number-requires c κs = search needs
 
--- src/lib.rt:116:20
 place-requires : tie.Need-place-requires
 place-requires c κs = search needs
 
--- src/lib.rt:98:1
 returns : tie.Need-returns
 returns c = rw (c .before .before .before .all-fields .ensures) (sym (ap (λ v. verdict-fields v (map record-fields (c .before .before .before .before .before .args .c .records))) (c .before .v .given .1)))
 
--- src/lib.rt:98:1
 returns-2 : tie.Need-returns-2
 returns-2 c = rw (c .before .number .ensures, c .place .ensures, c .before .before .before .before .before .all-fields .ensures) (sym (ap (λ v. verdict-fields v (map record-fields (c .before .before .before .before .before .before .before .args .c .records))) (c .before .before .before .v2 .given .1)))
 

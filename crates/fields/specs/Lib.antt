@@ -1,0 +1,2 @@
+-- The answers of the calls in document 01's numbers.
+pub mod Fields

@@ -1,0 +1,182 @@
+// The answers of the calls as structs of numbers: `refusal` is 0 where the call succeeds and document 01's number otherwise, and fields
+// that do not apply are 0.
+ghost use mathlib.Core.Path.{_≡_};
+ghost use mathlib.Core.List.{map};
+ghost use lib.ListN.{length};
+ghost use Rattle.definition.specs.Answer.{ending-number};
+ghost use Rattle.parts.specs.Packed.{part-of};
+ghost use Rattle.fields.specs.Fields.{record-fields, checked-fields, ran-fields, chained-fields, part-fields};
+use definition::Chained;
+use definition::Checked;
+use definition::Ending;
+use definition::Ran;
+use definition::Record;
+use definition::Verdict;
+
+// A relation: the first place of its name (text 0 is the facts, 1 the query), its arity, and its first word in the store.
+#[repr(C)]
+pub struct CRecord {
+    pub text: u64,
+    pub offset: u64,
+    pub length: u64,
+    pub arity: u64,
+    pub first: u64,
+}
+
+// What the check answers.
+#[repr(C)]
+pub struct CChecked {
+    pub refusal: u64,
+    pub place: u64,
+    pub universe: u64,
+    pub words: u64,
+    pub relations: u64,
+    pub records: [CRecord; 16],
+}
+
+// What the run answers; endings are 0 done, 1 spent, 2 full.
+#[repr(C)]
+pub struct CRan {
+    pub refusal: u64,
+    pub place: u64,
+    pub ending: u64,
+    pub steps: u64,
+    pub written: u64,
+}
+
+// A part of the facts (text 0) or of the query (text 1).
+#[repr(C)]
+pub struct CPart {
+    pub text: u64,
+    pub offset: u64,
+    pub length: u64,
+}
+
+// What the chain call answers.
+#[repr(C)]
+pub struct CChained {
+    pub refusal: u64,
+    pub place: u64,
+    pub count: u64,
+}
+
+fn record_fields(r: Record) -> CRecord
+    ensures { λ c. ⌜ c ≡ record-fields r ⌝ }
+{
+    CRecord {
+        text: r.text as u64,
+        offset: r.offset as u64,
+        length: r.length as u64,
+        arity: r.arity as u64,
+        first: r.first as u64,
+    }
+}
+
+fn all_fields(rs: [Record; 16]) -> [CRecord; 16]
+    requires { ⌜ length rs ≡ 16 ⌝ }
+    ensures { λ cs. ⌜ cs ≡ map record-fields rs ⌝ }
+{
+    let none = CRecord {
+        text: 0,
+        offset: 0,
+        length: 0,
+        arity: 0,
+        first: 0,
+    };
+    let mut cs = [none; 16];
+    let mut i: usize = 0;
+    while i < 16 {
+        cs[i] = record_fields(rs[i]);
+        i += 1;
+    }
+    cs
+}
+
+pub fn checked_fields(c: Checked) -> CChecked
+    requires { ⌜ length (c .records) ≡ 16 ⌝ }
+    ensures { λ r. ⌜ r ≡ checked-fields c ⌝ }
+{
+    let rs = c.records;
+    let records = all_fields(rs);
+    let v = c.verdict;
+    match v {
+        Verdict::Accepted(f) => CChecked {
+            refusal: 0,
+            place: 0,
+            universe: f.universe as u64,
+            words: f.words as u64,
+            relations: f.relations as u64,
+            records,
+        },
+        Verdict::Refused(q) => CChecked {
+            refusal: answers::number(q) as u64,
+            place: answers::place(q) as u64,
+            universe: 0,
+            words: 0,
+            relations: 0,
+            records,
+        },
+    }
+}
+
+fn ending_number(e: Ending) -> u64
+    ensures { λ r. ⌜ r ≡ ending-number e ⌝ }
+{
+    match e {
+        Ending::Done => 0,
+        Ending::Spent => 1,
+        Ending::Full => 2,
+    }
+}
+
+pub fn ran_fields(a: Ran) -> CRan
+    ensures { λ r. ⌜ r ≡ ran-fields a ⌝ }
+{
+    match a {
+        Ran::Ended(s) => {
+            let ending = s.ending;
+            CRan {
+                refusal: 0,
+                place: 0,
+                ending: ending_number(ending),
+                steps: s.steps as u64,
+                written: s.written as u64,
+            }
+        }
+        Ran::Refused(q) => CRan {
+            refusal: answers::number(q) as u64,
+            place: answers::place(q) as u64,
+            ending: 0,
+            steps: 0,
+            written: 0,
+        },
+    }
+}
+
+pub fn chained_fields(a: Chained) -> CChained
+    ensures { λ r. ⌜ r ≡ chained-fields a ⌝ }
+{
+    match a {
+        Chained::Chain(n) => CChained {
+            refusal: 0,
+            place: 0,
+            count: n as u64,
+        },
+        Chained::Refused(q) => CChained {
+            refusal: answers::number(q) as u64,
+            place: answers::place(q) as u64,
+            count: 0,
+        },
+    }
+}
+
+// The part that the number w stands for.
+pub fn part_fields(w: usize) -> CPart
+    ensures { λ r. ⌜ r ≡ part-fields (part-of w) ⌝ }
+{
+    CPart {
+        text: (w / 4 % 2) as u64,
+        offset: (w / 512) as u64,
+        length: (w / 8 % 64) as u64,
+    }
+}
