@@ -6,7 +6,7 @@ ghost use Rattle.eval.specs.Nodes.{node-at, child-at};
 ghost use Rattle.closures.specs.Filling.{fill-at, fill-word, fill-words};
 use closure::close;
 use eval::row;
-use eval::word_at;
+use words::word_at;
 
 // The assignment that gives a to slot x, and 0 to the others.
 fn only(x: u8, a: u8) -> [u8; 8]

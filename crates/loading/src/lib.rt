@@ -14,7 +14,6 @@ ghost use Rattle.tuples.specs.Places.{with-tuple};
 ghost use Rattle.facts.specs.Lines.{AllWithin};
 ghost use Rattle.facts.specs.Words.{fact-at};
 ghost use Rattle.loading.specs.Given.{element-number, tuple-at, Ready, Loaded, AllLoaded};
-use eval::word_at;
 use facts::FactLine;
 use facts::Item;
 use facts::NextFact;
@@ -25,6 +24,7 @@ use parts::packed;
 use scratch::clear;
 use tuples::load;
 use tuples::table_words;
+use words::word_at;
 
 // The number of an element of the line that starts at a: its index in the universe, which stands in byte order.
 fn element_number<'a>(facts: &'a [u8], query: &'a [u8], places: &[usize], a: usize, x: Item) -> u8

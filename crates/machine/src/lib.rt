@@ -16,6 +16,7 @@ use actions::range_at;
 use actions::test_at;
 use bits::test_bit;
 use definition::Ending;
+use words::previous;
 
 // The least member of s from `from` on, or u where none is below u.
 fn seek(s: u64, from: u8, u: u8) -> u8
@@ -73,12 +74,6 @@ fn settle(words: &[u64], sets: &[u64; 32], cursors: &[u8; 32], u: u8, pc: usize)
         at = n;
     }
     at
-}
-
-fn before(n: usize) -> usize
-    ensures { λ r. ⌜ r ≡ n - 1 ⌝ }
-{
-    if n == 0 { 0 } else { n - 1 }
 }
 
 // Where the test at a place goes on.
@@ -146,7 +141,7 @@ fn step(
             pc + 1
         }
         34 => branch(words, store, firsts, vars, u, pc, pc + 1, n),
-        36 => branch(words, store, firsts, vars, u, before(n), n, pc + 1),
+        36 => branch(words, store, firsts, vars, u, previous(n), n, pc + 1),
         _ => pc,
     }
 }

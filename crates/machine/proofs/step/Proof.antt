@@ -39,8 +39,8 @@ add-branch c = search needs
 branch-requires : tie.Need-branch-requires
 branch-requires c κs = search needs
 
-before-requires : tie.Need-before-requires
-before-requires c κs = search needs
+previous-requires : tie.Need-previous-requires
+previous-requires c κs = search needs
 
 add-branch-2 : tie.Need-add-branch-2
 add-branch-2 c = search needs
@@ -73,7 +73,7 @@ same-length-4 : tie.Need-same-length-4
 same-length-4 c = search needs
 
 returns-5 : tie.Need-returns-5
-returns-5 c = λ p used buffer. let a = c .before .before .before .before .before .before .before .before .before .before .before .args in by-again (actions (a .words .now) (a .firsts .now) (a .u) (a .scr) p) (a .u) (a .words .now) (a .pc) used (a .store .now) buffer (a .sets .now) (a .cursors .now) (a .vars .now) _ _ _ _ (is-again _ _ (omega arith) (c .before .before .before .before .before .before .match .keys5)) (c .before .before .before .before2 .ensures) (c .before .before .branch2 .ensures .0) (c .before .before .branch2 .ensures .1)
+returns-5 c = λ p used buffer. let a = c .before .before .before .before .before .before .before .before .before .before .before .args in by-again (actions (a .words .now) (a .firsts .now) (a .u) (a .scr) p) (a .u) (a .words .now) (a .pc) used (a .store .now) buffer (a .sets .now) (a .cursors .now) (a .vars .now) _ _ _ _ (is-again _ _ (omega arith) (c .before .before .before .before .before .before .match .keys5)) (c .before .before .before .previous .ensures) (c .before .before .branch2 .ensures .0) (c .before .before .branch2 .ensures .1)
 
 returns-6 : tie.Need-returns-6
 returns-6 c = λ p used buffer. let a = c .before .before .before .before .before .args in by-rest (actions (a .words .now) (a .firsts .now) (a .u) (a .scr) p) (a .u) (a .words .now) (a .pc) used (a .store .now) buffer (a .sets .now) (a .cursors .now) (a .vars .now) (omega arith) (c .match .rest) (c .before .before .before .before .before .pre .2)
@@ -93,7 +93,7 @@ step-spec =
     add-result
     add-branch
     branch-requires
-    before-requires
+    previous-requires
     add-branch-2
     branch-requires-2
     same-length
