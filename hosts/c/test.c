@@ -157,26 +157,34 @@ static size_t stack_used(char *query)
     return sizeof stack - free;
 }
 
-static void small_stack(void)
+/* PRINT of `levels` times `open`, n conjunctions of P(), and as often `close`, the last time `last`. */
+static char *deep_query(const char *open, int levels, int n, const char *close, const char *last)
 {
-    static char brackets[100], chain[2200], compared[2400];
-    sprintf(brackets, "PRINT %.*sP()%.*s;", 32, "((((((((((((((((((((((((((((((((", 32, "))))))))))))))))))))))))))))))))");
-    char *at = chain + sprintf(chain, "PRINT ");
-    for (int i = 0; i < 510; i++)
-        at += sprintf(at, "P()&");
-    sprintf(at, "P();");
-    at = compared + sprintf(compared, "PRINT %.*s", 32, "((((((((((((((((((((((((((((((((");
-    for (int i = 0; i < 462; i++)
+    static char query[4096];
+    char *at = query + sprintf(query, "PRINT ");
+    for (int i = 0; i < levels; i++)
+        at += sprintf(at, "%s", open);
+    for (int i = 0; i < n; i++)
         at += sprintf(at, "P()&");
     at += sprintf(at, "P()");
-    for (int i = 0; i < 32; i++)
-        at += sprintf(at, "<=P())");
-    sprintf(at, ";");
-    size_t deep = stack_used(brackets), lengthy = stack_used(chain), nested = stack_used(compared);
-    printf("stack: %zu bytes at 32 levels, %zu in the longest chain of &, %zu in one within 32 comparisons\n", deep, lengthy, nested);
-    EXPECT(deep < 256 * 1024);
-    EXPECT(lengthy < 256 * 1024);
-    EXPECT(nested < 256 * 1024);
+    for (int i = 1; i < levels; i++)
+        at += sprintf(at, "%s", close);
+    sprintf(at, "%s;", levels ? last : "");
+    return query;
+}
+
+static void small_stack(void)
+{
+    struct { const char *shape; size_t used; } stacks[] = {
+        { "32 levels", stack_used(deep_query("(", 32, 0, ")", ")")) },
+        { "the longest chain of &", stack_used(deep_query("", 0, 510, "", "")) },
+        { "one within 32 comparisons", stack_used(deep_query("(", 32, 462, "<=P())", "<=P())")) },
+        { "one within 32 EX and comparisons", stack_used(deep_query("EX(x,", 32, 438, ">=P())", "<=P())")) },
+    };
+    for (size_t i = 0; i < sizeof stacks / sizeof *stacks; i++) {
+        printf("stack: %zu bytes in %s\n", stacks[i].used, stacks[i].shape);
+        EXPECT(stacks[i].used < 256 * 1024);
+    }
 }
 
 int main(void)
