@@ -2,12 +2,12 @@
 use Prim.Native.Nat.{ℕ, zero, suc, _+_, _*_, _/_, _%_, _^_, _<_, _≤_, suc-le-suc}
 use mathlib.Core.Path.{_≡_, refl, sym, ap, ap₂, _∙_}
 use mathlib.Core.Logic.{_⊎_, inl, inr, ⊎-elim}
-use mathlib.Core.Bool.{Bool, true, false, not, _||_, _&&_, cond}
+use mathlib.Core.Bool.{Bool, true, false, _||_, _&&_, cond}
 use native.Mathlib.Nat.{le-of-suc-le-suc, not-suc-le-zero, zero-lt-suc, le-refl, mod-lt, zero-div, div-one, pow-suc, pow-succ', div-div-eq-div-mul, div-eq-of-lt, div-add-mod', mul-mod-left, mul-div-cancel, div-lt-iff-lt-mul, lt-of-lt-of-le, eq-or-lt-of-le, lt-suc-self, le-suc, le-of-eq, one-mul, le-add-right, lt-of-le-of-lt, div-le-self, zero-add}
 use native.Mathlib.Omega.{arith}
 use borrow.Author.Tests.{eq-eqb, ne-eqb, ltb-true, ltb-false}
 use lib.Dec.{eqb, ltb, eqb·suc-suc, eqb·zero-suc, eqb·suc-zero}
-use lib.Bits.{bitOr, bitAnd, or-shr, or-mod, or-lt, and-shr, and-mod, and-lt}
+use lib.Bits.{bitOr, bitAnd, or-shr, or-mod, or-lt, and-shr, and-mod}
 use lib.Pow.{pow-lt, pow-mono, pow-pos, shr-shr}
 use lib.Arith.{digits-lt, lt-one}
 use Rattle.definition.specs.Tables.{bit, word}
@@ -148,16 +148,6 @@ word-ext n w f h e = bits-ext n w (word n 0 f) h (word-lt n 0 f) (λ i l. e i l 
 -- two tests that agree below n make one word
 pub word-same : (n : ℕ) (f g : ℕ → Bool) → ((i : ℕ) → i < n → f i ≡ g i) → word n 0 f ≡ word n 0 g
 word-same n f g e = word-ext n (word n 0 f) g (word-lt n 0 f) (λ i l. word-bit n f i l ∙ e i l)
-
-pub word-or : (n : ℕ) (f g : ℕ → Bool) → bitOr (word n 0 f) (word n 0 g) ≡ word n 0 (λ i. f i || g i)
-word-or n f g =
-    word-ext n _ _ (or-lt n (word n 0 f) (word n 0 g) (word-lt n 0 f) (word-lt n 0 g))
-    (λ i l. bit-or (word n 0 f) (word n 0 g) i ∙ ap₂ (λ (a b : Bool). a || b) (word-bit n f i l) (word-bit n g i l))
-
-pub word-and : (n : ℕ) (f g : ℕ → Bool) → bitAnd (word n 0 f) (word n 0 g) ≡ word n 0 (λ i. f i && g i)
-word-and n f g =
-    word-ext n _ _ (and-lt n (word n 0 f) (word n 0 g) (word-lt n 0 f) (word-lt n 0 g))
-    (λ i l. bit-and (word n 0 f) (word n 0 g) i ∙ ap₂ (λ (a b : Bool). a && b) (word-bit n f i l) (word-bit n g i l))
 
 -- ---- a word with one bit more
 

@@ -1,13 +1,13 @@
 -- The lowered words of a whole program: the places are those of the program's words before lowering.
 use Prim.Native.Nat.{ℕ, suc, _<_}
 use mathlib.Core.Path.{_≡_}
-use mathlib.Core.List.{List, [], _∷_}
+use mathlib.Core.List.{List, _∷_}
 use lib.ListN.{length}
 use Rattle.definition.specs.Text.{Text}
 use Rattle.definition.specs.Token.{Token}
 use Rattle.definition.specs.Syntax.{Term, Expression, Item, Program, end, assign, print, test, while, for, block}
 use Rattle.definition.specs.Accept.{Accepted}
-use Rattle.machine.specs.Instructions.{Instr, ASSIGN, PRINT, TEST, AGAIN, RANGE, NEXT, JUMP, instr}
+use Rattle.machine.specs.Instructions.{ASSIGN, PRINT, TEST, AGAIN, RANGE, NEXT, JUMP, instr}
 use Rattle.code.specs.Statements.{Whole, TestCode, RangeCode, AssignCode, PrintCode}
 
 module _ (w : Accepted) (query : Text) (low : List ℕ) where

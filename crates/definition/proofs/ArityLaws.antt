@@ -85,10 +85,6 @@ used-small {k} {p} {t} (added n e) h = small-more (k .relations) (new-relation t
 pub names-small : (limits : Limits) (us : List Use) (k l : Kinds) → use-names limits us k ≡ ok l → Small (k .relations) → Small (l .relations)
 names-small limits = names-hold limits (λ m. Small (m .relations)) (λ k u l e. used-small (used limits k (u .role) (u .token) l e))
 
--- so a name before n terms has at most 3
-pub arity-small : (k : Kinds) → Numbered k → Small (k .relations) → (x : Text) (i n : ℕ) → k .known x ≡ relation i n → n ≤ ARITY
-arity-small k m h x i n e = subst (λ a. a ≤ ARITY) (relation-place k m x i n e .2) (h .each i)
-
 -- the relations of accepted texts
 pub small-arities : (limits : Limits) (facts query : Text) (w : Accepted) → accept limits facts query ≡ ok w → Small (w .relations)
 small-arities limits facts query w e =

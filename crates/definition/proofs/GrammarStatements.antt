@@ -17,7 +17,7 @@ use Rattle.definition.proofs.GrammarComplete.{Halts, on-not}
 use Rattle.definition.proofs.GrammarReads.{Begins, begins-halts, begins-as, Takes, keys-alone, not-key, only-key, sign-halts, neither, Next, nothing, a-name, a-string, a-sign, a-key, next, Reads, Fails, Rule, read!, Stands, empty!, none!, unit-eq, like-eq, start-eq, via, goes, on-goes, on-halts}
 use Rattle.definition.proofs.GrammarExpressions.{rests, after-name-halts}
 use Rattle.definition.specs.Grammar.{Program, MoreStatements, Statement, Block, Else, Lefts, MoreLefts, Left, MoreItems, Item, Word, Term, Expression}
-use Rattle.definition.specs.Grammar.{program, end-statements, more-statements, conditional, while-loop, for-loop, nested-block, print-statement, block, no-else, else-block, no-lefts, lefts, end-lefts, more-lefts, left-name, left-string, end-items, more-items, item-expression, item-labelled, item-word, item-endl, word-name, word-string}
+use Rattle.definition.specs.Grammar.{program, end-statements, more-statements, conditional, while-loop, for-loop, print-statement, block, no-else, else-block, no-lefts, lefts, end-lefts, more-lefts, left-name, left-string, end-items, more-items, item-expression, item-labelled, item-word, item-endl, word-name, word-string}
 use Rattle.definition.specs.Reader.{Symbol, phrase, fixed, identifier, any-sign, after-name, after-item-name, after-item-string, after-left, level-end, rule, halt, item-name-rest, item-string-rest, on-key, wrap, levels-open, as-item, as-item-name-rest, as-item-string-rest, left-becomes, left-alone, item-of, string-item-of, statement-of, map-reading, read}
 use Rattle.definition.specs.Token.{Terminal, name, string, sign, key, Sign, LPAREN, RPAREN, LBRACE, RBRACE, LBRACKET, RBRACKET, COMMA, SEMICOLON, BECOMES, IF, ELSE, WHILE, FOR, IN, PRINT, ENDL}
 
@@ -176,10 +176,6 @@ while-rule = record { is = λ s. refl }
 pub for-rule : Rule (phrase Statement) (key FOR) (identifier ∷ fixed IN ∷ phrase Expression ∷ phrase Block ∷ []) (λ fs. for-loop (fs .0) (fs .1 .1 .0) (fs .1 .1 .1 .0))
 unfolding on-key
 for-rule = record { is = λ s. refl }
-
-pub nested-rule : Rule (phrase Statement) (key LBRACE) (phrase Statement ∷ phrase MoreStatements ∷ fixed RBRACE ∷ level-end ∷ []) (λ fs. nested-block (fs .0) (fs .1 .0))
-unfolding on-key
-nested-rule = record { is = λ s. refl }
 
 pub print-rule : Rule (phrase Statement) (key PRINT) (phrase Item ∷ phrase MoreItems ∷ fixed SEMICOLON ∷ []) (λ fs. print-statement (fs .0) (fs .1 .0))
 unfolding on-key

@@ -1,15 +1,15 @@
 -- Lists of up to four different digits from 1 to 4, as numbers.
-use Prim.Native.Nat.{ℕ, zero, suc, _+_, _*_, _/_, _%_, _<_, _≤_}
-use mathlib.Core.Path.{_≡_, refl, sym, ap, _∙_}
+use Prim.Native.Nat.{ℕ, _+_, _*_, _/_, _%_, _<_, _≤_}
+use mathlib.Core.Path.{_≡_, refl, ap, _∙_}
 use mathlib.Core.Bool.{Bool, true, false, cond}
 use mathlib.Core.List.{List, [], _∷_, _++_}
 use native.Mathlib.Omega.{arith}
-use borrow.Author.Tests.{ne-eqb, eq-eqb, eqb-true, eqb-false, lt-ltb, le-ltb}
-use lib.Dec.{eqb, ltb}
+use borrow.Author.Tests.{ne-eqb, eqb-false, lt-ltb, le-ltb}
+use lib.Dec.{eqb}
 use lib.ListN.{length, length-append}
 use Rattle.digits.specs.Lists.{member, add, adds, remove, within, pack}
 use Rattle.digits.specs.Packed.{has, put, plus, joined, before, without, count, none-or-in, inside}
-use Rattle.digits.proofs.Listing.{Once, Within, Listed, few, listed-add, once-snoc, within-snoc}
+use Rattle.digits.proofs.Listing.{Within, Listed, few, listed-add, once-snoc, within-snoc}
 
 abbrev num : ℕ → ℕ → ℕ → ℕ → ℕ
 num a b c d = a + 8 * b + 64 * c + 512 * d

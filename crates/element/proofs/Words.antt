@@ -1,6 +1,6 @@
 -- The word of an element.
 use Prim.Native.Nat.{ℕ, _+_, _/_, _%_, _<_, _≤_}
-use mathlib.Core.Path.{_≡_, refl, sym, ap, subst, _∙_}
+use mathlib.Core.Path.{_≡_, sym, ap, subst, _∙_}
 use mathlib.Core.Bool.{Bool}
 use mathlib.Core.List.{List}
 use native.Mathlib.Omega.{arith}
@@ -11,7 +11,7 @@ use Rattle.definition.specs.Text.{if_then_else_, Text}
 use Rattle.definition.specs.Limits.{document-01}
 use Rattle.definition.specs.Answer.{Answer, refused}
 use Rattle.definition.specs.Accept.{Accepted, accept, elements}
-use Rattle.definition.specs.Calls.{Part, no-part, part-text, answer-part, element}
+use Rattle.definition.specs.Calls.{no-part, part-text, answer-part, element}
 use Rattle.parts.specs.Packed.{part-of}
 use Rattle.universe.proofs.Filling.{filled-count, filled-part, no-element-part}
 use Rattle.acceptance.specs.declared.Sizes.{Sizes}

@@ -1,14 +1,14 @@
 -- What a run of accepted texts begins with.
-use Prim.Native.Nat.{ℕ, suc, _<_, _≤_}
-use mathlib.Core.Path.{_≡_, refl, sym, ap, subst, _∙_}
-use mathlib.Core.List.{List, [], _∷_, map}
+use Prim.Native.Nat.{ℕ, _<_, _≤_}
+use mathlib.Core.Path.{_≡_, refl, sym, subst, _∙_}
+use mathlib.Core.List.{List, []}
 use native.Mathlib.Omega.{arith}
-use lib.ListN.{length, getD, take, replicate, length-replicate}
+use lib.ListN.{length, take, replicate, length-replicate}
 use lib.Seq.{getD-take, length-take-le}
 use Rattle.definition.specs.Text.{Text}
-use Rattle.definition.specs.Limits.{document-01, FACT-BYTES}
-use Rattle.definition.specs.Answer.{ok, refused, number, place}
-use Rattle.definition.specs.Accept.{Accepted, accept, elements, words-needed}
+use Rattle.definition.specs.Limits.{document-01}
+use Rattle.definition.specs.Answer.{refused, number, place}
+use Rattle.definition.specs.Accept.{Accepted, accept, elements}
 use Rattle.definition.specs.Assignment.{loaded}
 use Rattle.definition.specs.Claim.{store-image}
 use Rattle.definition.specs.Calls.{RunMeets}
@@ -16,11 +16,7 @@ use Rattle.definition.specs.declared.Ran.the-variants.{Refused}
 use Rattle.definition.specs.declared.Refusal.{Refusal}
 use Rattle.definition.specs.declared.Refusal.the-variants.{StoreShort}
 use Rattle.definition.proofs.CallLaws.{run-short}
-use Rattle.words.specs.Fields.{kind-of}
-use Rattle.actions.specs.Parts.{is-statement, start}
-use Rattle.lines.specs.Lines.{texts}
 use Rattle.universe.proofs.Filling.{filled-shows, filled-count}
-use Rattle.code.specs.Layout.{Laid}
 use Rattle.code.specs.Program.{Code}
 use Rattle.coding.specs.Pass.{Depths, Made, Passed}
 use Rattle.coded.proofs.Coded.{Lowering, coded, code-length}

@@ -1,21 +1,18 @@
 -- The check's answer, as the definition has it.
 use Prim.Native.Nat.{ℕ, suc}
-use mathlib.Core.Path.{_≡_, refl, sym, ap, _∙_}
+use mathlib.Core.Path.{_≡_, refl, ap, _∙_}
 use mathlib.Core.Bool.{true}
-use mathlib.Core.List.{List, [], _∷_, map}
+use mathlib.Core.List.{List, [], _∷_}
 use lib.ListN.{length, replicate}
 use Rattle.definition.specs.Text.{Text}
 use Rattle.definition.specs.Limits.{document-01}
-use Rattle.definition.specs.Answer.{Answer, ok, refused, number, place}
-use Rattle.definition.specs.Facts.{Relation}
+use Rattle.definition.specs.Answer.{ok, refused, number, place}
 use Rattle.definition.specs.Syntax.{end}
-use Rattle.definition.specs.Accept.{Accepted, accept, elements, words-needed}
+use Rattle.definition.specs.Accept.{Accepted, accept, elements}
 use Rattle.definition.specs.Calls.{records-from, records, no-record, check, CheckMeets}
 use Rattle.definition.specs.declared.Refusal.{Refusal}
 use Rattle.definition.specs.declared.Record.{Record}
-use Rattle.definition.specs.declared.Figures.{Figures}
 use Rattle.definition.specs.declared.Verdict.the-variants as Verdict
-use Rattle.parts.specs.Entries.{texts-of}
 use Rattle.facts.specs.Words.{relations-of}
 use Rattle.layout.specs.Sizes.{LaidOut}
 

@@ -8,7 +8,7 @@ use Rattle.definition.proofs.GrammarReads.{Rule, Stands, Reads, Fails, read!, f
 use Rattle.definition.proofs.GrammarExpressions.{expression-rule, implication-rule, disjunction-rule, conjunction-rule, comparison-rule, no-comparison!, implies-rule, iff-rule, no-consequent!, more-or-rule, end-or!, more-and-rule, end-and!, negation-rule, primary-rule}
 use Rattle.definition.specs.Grammar.{Nonterminal, Tree, Expression, Comparison, Implication, Consequent, Disjunction, MoreOr, Conjunction, MoreAnd, Negation, Primary}
 use Rattle.definition.specs.Grammar as Grammar
-use Rattle.definition.specs.Reader.{Symbol, phrase, level-end}
+use Rattle.definition.specs.Reader.{phrase}
 use Rattle.definition.specs.Syntax as Syntax
 use Rattle.definition.specs.Syntax.{says, negation, conjunction, disjunction, implication, equivalence, compare-relations}
 use Rattle.definition.specs.Token.{Token, Terminal, sign, key, Sign, AND, OR, NOT, IMPLIES, IFF}
@@ -19,7 +19,7 @@ use Rattle.terms.proofs.TokenLaws.{kind-within, key-first, sign-first, sign-cod
 use Rattle.terms.proofs.WriteLaws.{wrote-then, wrote-next, wrote-as}
 use Rattle.terms.specs.declared.Answer.{Answer}
 use Rattle.terms.specs.declared.Answer.the-variants.{Read, Refused}
-use Rattle.terms.specs.Phrases.{kind-in, seen, Holds, Wrote, Meaning, Got, parsed, Paid, far, Parsed, IsNegation, IsPrimary, IsConjunction, IsDisjunction, IsImplication, IsExpression}
+use Rattle.terms.specs.Phrases.{kind-in, seen, Holds, Wrote, Meaning, Got, parsed, Paid, far, Parsed, IsNegation, IsPrimary, IsDisjunction, IsImplication, IsExpression}
 use Rattle.words.proofs.Sizes.{length-flat}
 use Rattle.words.specs.Fields.{word, NEGATION, CONJUNCTION, DISJUNCTION, IMPLICATION, EQUIVALENCE, COMPARISON}
 use Rattle.words.specs.Raw.{flat, size, over, sign-number}

@@ -2,11 +2,11 @@
 use mathlib.Core.List.{List, [], _∷_, _++_, map, append-assoc, append-nil}
 use mathlib.Core.Path.{_≡_, refl, ap, sym, subst, _∙_}
 use native.Mathlib.Omega.{arith}
-use Prim.Native.Nat.{ℕ, zero, suc, _+_, _*_, _-_, _≤_, _<_}
+use Prim.Native.Nat.{ℕ, suc, _+_, _*_, _-_, _≤_, _<_}
 use lib.ListN.{length, set, length-set}
 use lib.Seq.{sets}
 use Rattle.definition.specs.Token.{LPAREN, COMMA}
-use Rattle.expressions.specs.Operators.{Names, no-more, one-more, attribute, Bound, Unbound, no-bracket, no-name, no-comma, IsBound, binders, BindSpace}
+use Rattle.expressions.specs.Operators.{Names, no-more, one-more, attribute, no-bracket, no-name, no-comma, IsBound, binders, BindSpace}
 use Rattle.lexer.specs.Tokens.{NAME}
 use Rattle.terms.proofs.TokenLaws.{kind-within}
 use Rattle.terms.proofs.WriteLaws.{wrote-none, wrote-next, wrote-as}

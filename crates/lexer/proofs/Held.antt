@@ -2,13 +2,10 @@
 use mathlib.Core.Path.{_≡_, refl, sym, ap, _∙_}
 use mathlib.Core.Bool.{Bool, true, false}
 use mathlib.Core.List.{List, [], _∷_}
-use Prim.Native.Nat.{ℕ, zero, suc, _+_, _-_, _≤_, _<_}
+use Prim.Native.Nat.{ℕ, zero, suc, _+_, _≤_, _<_}
 use native.Mathlib.Nat.{zero-add, add-zero, add-suc, suc-add, not-suc-le-zero, le-of-suc-le-suc}
-use native.Mathlib.Numerals.{add-one}
-use native.Mathlib.Omega.{arith}
 use lib.Dec.{ltb}
-use lib.ListN.{length, drop, getD, length-drop, drop-of-length-le}
-use lib.Seq.{length-take-le}
+use lib.ListN.{length, drop, getD}
 use Rattle.definition.specs.Text.{Text}
 use Rattle.definition.specs.Limits.{QUERY-BYTES, TOKENS}
 use Rattle.definition.specs.Answer.{Answer, ok, refused, _>>=_, _>>_, refuse-if}
@@ -16,7 +13,7 @@ use Rattle.definition.specs.Token.{Terminal, Token, terminals, token-at, place-
 use Rattle.definition.specs.Reader.{read-program}
 use Rattle.definition.specs.Syntax.{Program, says}
 use Rattle.definition.specs.Accept.{lexed-answer, read-answer, read-query}
-use Rattle.lexer.specs.Tokens.{terminal-of, kind-of, size-of, at-of, start-of, token-of, tokens-of, terminals-of, Inside}
+use Rattle.lexer.specs.Tokens.{terminal-of, kind-of, at-of, token-of, tokens-of, terminals-of}
 use Rattle.lexer.specs.Answers.{query-tokens}
 
 -- as many tokens as words
@@ -54,18 +51,6 @@ drop-from n (w ∷ ws) (suc i) h =
 module _ (query : Text) (ws : List ℕ) (i : ℕ) (h : i < length ws) where
   pub token-held : token-at (tokens-of query 0 ws) i ≡ token-of query i (getD ws i 0)
   token-held = token-from query 0 ws i h ∙ ap (λ (m : ℕ). token-of query m (getD ws i 0)) (zero-add i)
-
-  -- its text has the word's length
-  pub length-text : Inside query ws → length (token-at (tokens-of query 0 ws) i .text) ≡ size-of (getD ws i 0)
-  length-text f = ap (λ (t : Token). length (t .text)) token-held ∙ length-take-le (size-of (getD ws i 0)) (drop (start-of (getD ws i 0)) query) (rw (length-drop (start-of (getD ws i 0)) query) (omega (arith, f i h)))
-
--- what the grammar sees from a token on
-module _ (ws : List ℕ) (i : ℕ) where
-  pub terminals-next : i < length ws → drop i (terminals-of 0 ws) ≡ terminal-of (kind-of (getD ws i 0)) i ∷ drop (i + 1) (terminals-of 0 ws)
-  terminals-next h = drop-from 0 ws i h ∙ rw (zero-add i, add-one i)
-
-  pub terminals-end : length ws ≤ i → drop i (terminals-of 0 ws) ≡ []
-  terminals-end h = drop-of-length-le (terminals-of 0 ws) {i = i} (omega (arith, length-terminals 0 ws))
 
 -- the place of a token, and past the last the query's length
 place-from : (query : Text) (n m : ℕ) (ws : List ℕ) (i : ℕ) → i < length ws → place-at m (tokens-of query n ws) i ≡ at-of (getD ws i 0)

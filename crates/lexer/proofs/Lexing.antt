@@ -6,7 +6,7 @@ use native.Mathlib.Omega.{arith}
 use lib.ListN.{length, drop, getD, drop-of-length-le, length-drop}
 use lib.Seq.{drop-cons, drop-drop}
 use Rattle.definition.specs.Text.{Text}
-use Rattle.definition.specs.Token.{Terminal, gap, token, neither, piece, tokens, stopped, add, on-piece, lex}
+use Rattle.definition.specs.Token.{Terminal, gap, token, neither, tokens, stopped, add, on-piece, lex}
 use Rattle.definition.proofs.TextLaws.{lex-skip}
 use Rattle.lexer.specs.Segments.{first-piece}
 use Rattle.lexer.proofs.Sizes.{Sized, sized-gap, sized-token, piece-sized}
@@ -24,9 +24,6 @@ module _ (text : Text) (at : ℕ) where
       ∙ rw (drop-drop, e)
 
   module _ (h : at < length text) where
-    first-is : first-piece (drop at text) ≡ piece (getD text at 0) (drop (suc at) text)
-    first-is = rw (drop-cons text at 0 h)
-
     sized : Sized (length (drop at text)) (first-piece (drop at text))
     sized = rw (drop-cons text at 0 h) (piece-sized (getD text at 0) (drop (suc at) text))
 

@@ -1,15 +1,14 @@
 -- The open FORs in the arrays: what their names stand for, one more FOR, and the next element of the innermost.
-use Prim.Native.Nat.{ℕ, zero, suc, _-_, _≤_, _<_}
+use Prim.Native.Nat.{ℕ, suc, _-_, _<_}
 use native.Mathlib.Omega.{arith}
 use native.Mathlib.Nat.{eq-or-lt-of-le, le-of-suc-le-suc}
-use mathlib.Core.Path.{_≡_, refl, sym, ap, _∙_}
+use mathlib.Core.Path.{_≡_, refl, ap, _∙_}
 use mathlib.Core.Logic.{⊎-elim}
 use mathlib.Core.List.{List, [], _∷_}
 use lib.ListN.{length, getD, set}
 use lib.Seq.{getD-set-same, getD-set-other}
 use Rattle.definition.specs.Text.{Text}
 use Rattle.definition.specs.Accept.{Accepted, elements}
-use Rattle.definition.specs.Meaning.{Environment, nowhere, bind}
 use Rattle.machine.specs.Instructions.{Instr, END, PASS, ASSIGN, PRINT, TEST, AGAIN, RANGE, NEXT, JUMP}
 use Rattle.machine.specs.Actions.{members, scope-environment}
 use Rattle.machine.specs.Turns.{left-at}

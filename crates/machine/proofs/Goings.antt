@@ -2,7 +2,7 @@
 use Prim.Native.Nat.{ℕ, suc, _+_, _≤_, _<_}
 use native.Mathlib.Omega.{arith}
 use native.Mathlib.Numerals.{add-one}
-use mathlib.Core.Path.{_≡_, refl, sym, ap, subst, _∙_}
+use mathlib.Core.Path.{_≡_, sym, subst, _∙_}
 use mathlib.Core.Bool.{Bool, true, false}
 use mathlib.Core.List.{List}
 use lib.ListN.{length}
@@ -13,7 +13,7 @@ use Rattle.definition.specs.declared.Ending.the-variants.{Done, Spent, Full}
 use Rattle.definition.specs.declared.Stopped.{Stopped}
 use Rattle.machine.specs.Instructions.{instr}
 use Rattle.machine.specs.Actions.{Actions}
-use Rattle.machine.specs.Turns.{Held, held, Moves, rests, Settled, goes, turn, is-full}
+use Rattle.machine.specs.Turns.{Held, held, Moves, rests, goes, turn, is-full}
 use Rattle.machine.specs.Standing.{Run, Gone}
 use Rattle.machine.specs.Bound.{Turned, stopped-of, Goes}
 use Rattle.machine.specs.declared.Went.{Went}

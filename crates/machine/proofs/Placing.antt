@@ -2,16 +2,13 @@
 use Prim.Native.Nat.{ℕ, zero, suc, _+_, _<_}
 use native.Mathlib.Nat.{add-zero, add-suc, suc-add}
 use native.Mathlib.Omega.{arith}
-use mathlib.Core.Path.{_≡_, refl, sym, ap, subst, _∙_}
-use mathlib.Core.Bool.{true, false}
-use mathlib.Core.List.{List, _∷_}
-use lib.ListN.{length, getD}
-use Rattle.definition.specs.Text.{Text, same}
+use mathlib.Core.Path.{_≡_, sym, ap, _∙_}
+use mathlib.Core.List.{List}
+use Rattle.definition.specs.Text.{Text}
 use Rattle.definition.specs.Syntax.{Program}
 use Rattle.definition.specs.Accept.{Accepted}
-use Rattle.definition.specs.Meaning.{bind}
 use Rattle.machine.specs.Instructions.{PASS, instr}
-use Rattle.machine.specs.Actions.{Actions, scope-environment}
+use Rattle.machine.specs.Actions.{Actions}
 use Rattle.machine.specs.Placed.{Placed, placed-pass}
 
 -- n words of expressions, names and items before a statement's own
@@ -22,12 +19,3 @@ placed-after w A code (suc n) s h r =
     placed-pass (ap (instr code) (sym (add-zero s)) ∙ h 0 (omega arith))
     (placed-after w A code n (suc s) (λ i l. ap (instr code) (suc-add s i ∙ sym (add-suc s i)) ∙ h (suc i) (omega arith))
     (rw (add-suc s n ∙ sym (suc-add s n)) at r))
-
--- the innermost name, and one further out
-pub name-here : (x : Text) (xs : List Text) (vs : List ℕ) → same x x ≡ true → scope-environment (x ∷ xs) vs x ≡ getD vs (length xs) 0
-unfolding scope-environment bind
-name-here x xs vs e = rw e refl
-
-pub name-outside : (x y : Text) (xs : List Text) (vs : List ℕ) → same x y ≡ false → scope-environment (x ∷ xs) vs y ≡ scope-environment xs vs y
-unfolding scope-environment bind
-name-outside x y xs vs e = rw e refl

@@ -2,11 +2,11 @@
 use Prim.Native.Nat.{ℕ, suc, _+_, _≤_, _<_}
 use native.Mathlib.Omega.{arith}
 use native.Mathlib.Numerals.{add-one}
-use mathlib.Core.Path.{_≡_, refl, sym, ap, _∙_}
+use mathlib.Core.Path.{_≡_, refl, ap, _∙_}
 use mathlib.Core.List.{List, [], _∷_}
 use lib.ListN.{length, getD}
-use Rattle.machine.specs.Instructions.{Instr, END, PASS, NEXT, JUMP, instr}
-use Rattle.machine.specs.Turns.{left-at, next-at, Move, passes, jumps, leaves, Moves, here, on, rests, Quiet, Settled}
+use Rattle.machine.specs.Instructions.{Instr, PASS, NEXT, JUMP, instr}
+use Rattle.machine.specs.Turns.{left-at, next-at, Move, passes, jumps, leaves, Moves, on, rests, Quiet, Settled}
 use Rattle.machine.proofs.Decoding.{instr-end}
 use Rattle.machine.proofs.Members.{next-inside}
 

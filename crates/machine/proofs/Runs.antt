@@ -1,13 +1,11 @@
 -- The machine in the definition's run: where it begins, what moves and steps make of it, and what it shows where it stops.
-use Prim.Native.Nat.{ℕ, zero, suc, _+_, _-_, _≤_, _<_}
+use Prim.Native.Nat.{ℕ, suc, _+_, _-_, _≤_, _<_}
 use native.Mathlib.Omega.{arith}
-use mathlib.Core.Path.{_≡_, refl, sym, ap, subst, _∙_}
-use mathlib.Core.Bool.{Bool, true, false, cond}
+use mathlib.Core.Path.{_≡_, refl, sym, ap, _∙_}
+use mathlib.Core.Bool.{cond}
 use mathlib.Core.List.{List, [], _∷_, _++_, map}
-use lib.Dec.{ltb}
-use lib.ListN.{length, getD, set, take, drop, length-append, length-drop, length-set}
+use lib.ListN.{length, getD, drop, length-append, length-drop, length-set}
 use lib.Seq.{sets, sets-eq, take-append-seam, drop-append-add, drop-drop}
-use borrow.Author.Tests.{ltb-true, ltb-false}
 use Rattle.definition.specs.Text.{Text}
 use Rattle.definition.specs.Token.{Token}
 use Rattle.definition.specs.Syntax.{Term, Expression, Item}
@@ -15,20 +13,16 @@ use Rattle.definition.specs.Accept.{Accepted, elements, words-needed}
 use Rattle.definition.specs.Meaning.{Tables, nowhere, mean, answers}
 use Rattle.definition.specs.Assignment.{loaded, assign-tables}
 use Rattle.definition.specs.Print.{print-text}
-use Rattle.definition.specs.Run.{Task, State, state, tasks, next, next-of, start, point}
-use Rattle.definition.specs.Claim.{is-print, store-image, Unfit, Shows}
-use Rattle.definition.specs.declared.Ending.{Ending}
-use Rattle.definition.specs.declared.Ending.the-variants.{Done, Spent, Full}
-use Rattle.definition.specs.declared.Stopped.{Stopped}
-use Rattle.definition.proofs.Claims.{Stop, at-end, at-budget, at-print}
-use Rattle.machine.specs.Instructions.{Instr, END, PASS, ASSIGN, PRINT, TEST, AGAIN, RANGE, NEXT, JUMP, instr}
+use Rattle.definition.specs.Run.{State, tasks, next, start, point}
+use Rattle.definition.specs.Claim.{is-print, store-image, Unfit}
+use Rattle.machine.specs.Instructions.{ASSIGN, PRINT, TEST, AGAIN, RANGE, NEXT, instr}
 use Rattle.machine.specs.Actions.{Actions, Handed, Leaves, Tests, Ranges, Assigns, Prints, members, single, scope-environment}
-use Rattle.machine.specs.Placed.{Placed, Holds-program}
-use Rattle.machine.specs.Turns.{Held, held, left-at, next-at, Move, passes, jumps, leaves, Moves, here, on, rests, Settled, bytes, overflows, goes, goes-after, printed as printed-by, turn-by}
-use Rattle.machine.specs.Standing.{Frame, scope-of, environment, around, Within, Shown, Sizes, left, AtI, At, at-end as AtI·end, Run}
+use Rattle.machine.specs.Placed.{Holds-program}
+use Rattle.machine.specs.Turns.{Held, held, left-at, next-at, Move, passes, jumps, leaves, bytes, goes, goes-after, printed as printed-by, turn-by}
+use Rattle.machine.specs.Standing.{Frame, scope-of, environment, around, Within, Shown, Sizes, left, At, at-end as AtI·end, Run}
 use Rattle.machine.proofs.Members.{next-inside, next-rest}
 use Rattle.machine.proofs.Frames.{shown-open, taken, shown-take, shown-left, shown-after, shown-environment, shown-inside, within-around}
-use Rattle.machine.proofs.Steps.{placed-at, sim-end, sim-pass, sim-jump, Stepped, sim-assign, Printed, sim-print, Tested, sim-test, sim-again, sim-range, Nexts, sim-next}
+use Rattle.machine.proofs.Steps.{placed-at, sim-pass, sim-jump, Stepped, sim-assign, Printed, sim-print, Tested, sim-test, sim-again, sim-range, Nexts, sim-next}
 
 -- bytes behind an output that stands at the front of a buffer
 written : (o x b : Text) → length o + length x ≤ length (o ++ drop (length o) b)

@@ -1,5 +1,5 @@
 -- What is left to do where the words of a program begin, and that each instruction is one step of the definition's run.
-use Prim.Native.Nat.{ℕ, zero, suc, _+_, _-_, _≤_, _<_}
+use Prim.Native.Nat.{ℕ, suc, _-_, _<_}
 use native.Mathlib.Omega.{arith}
 use native.Mathlib.Nat.{sub-zero}
 use mathlib.Core.Path.{_≡_, refl, sym, ap, subst, _∙_}
@@ -13,9 +13,9 @@ use Rattle.definition.specs.Accept.{Accepted, elements}
 use Rattle.definition.specs.Meaning.{Tables, bind, mean, answers}
 use Rattle.definition.specs.Assignment.{assign-tables}
 use Rattle.definition.specs.Print.{print-text}
-use Rattle.definition.specs.Run.{Task, testing, repeating, State, state, tasks, each, step, next-of}
+use Rattle.definition.specs.Run.{Task, testing, repeating, state, tasks, each, step, next-of}
 use Rattle.definition.specs.Claim.{is-print}
-use Rattle.machine.specs.Instructions.{Instr, END, PASS, ASSIGN, PRINT, TEST, AGAIN, RANGE, NEXT, JUMP, instr}
+use Rattle.machine.specs.Instructions.{END, PASS, ASSIGN, PRINT, TEST, AGAIN, RANGE, NEXT, JUMP, instr}
 use Rattle.machine.specs.Actions.{Actions, Tests, Ranges, Assigns, Prints, members, single}
 use Rattle.machine.specs.Placed.{Placed, placed-end, placed-pass, placed-assign, placed-print, placed-test, placed-while, placed-for, placed-block}
 use Rattle.machine.specs.Standing.{Frame, scope-of, environment, left, AtI, At, at-end, at-pass, at-jump, at-assign, at-print, at-test, at-while, at-again, at-range, at-next}

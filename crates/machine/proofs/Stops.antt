@@ -1,9 +1,9 @@
 -- Moves and turns of the machine in the definition's run, and where and why it stops.
-use Prim.Native.Nat.{ℕ, zero, suc, _+_, _≤_, _<_}
+use Prim.Native.Nat.{ℕ, suc, _≤_, _<_}
 use native.Mathlib.Omega.{arith}
 use mathlib.Core.Path.{_≡_, refl, sym, ap, _∙_}
-use mathlib.Core.Bool.{Bool, true, false, cond}
-use mathlib.Core.List.{List, [], _∷_}
+use mathlib.Core.Bool.{Bool, true, false}
+use mathlib.Core.List.{List, []}
 use lib.ListN.{length}
 use borrow.Author.Tests.{ltb-true, ltb-false}
 use Rattle.definition.specs.Text.{Text}
@@ -14,10 +14,10 @@ use Rattle.definition.specs.Claim.{Shows}
 use Rattle.definition.specs.declared.Ending.{Ending}
 use Rattle.definition.specs.declared.Ending.the-variants.{Done, Spent, Full}
 use Rattle.definition.specs.declared.Stopped.{Stopped}
-use Rattle.definition.proofs.Claims.{Stop, at-end, at-budget, at-print}
+use Rattle.definition.proofs.Claims.{at-end, at-budget, at-print}
 use Rattle.machine.specs.Instructions.{Instr, END, PASS, ASSIGN, PRINT, TEST, AGAIN, RANGE, NEXT, JUMP, instr}
 use Rattle.machine.specs.Actions.{Actions}
-use Rattle.machine.specs.Turns.{Held, Move, Moves, here, on, rests, overflows, goes, goes-after, turn-by, turn, is-full}
+use Rattle.machine.specs.Turns.{Held, Moves, here, on, rests, overflows, goes, goes-after, turn-by, turn, is-full}
 use Rattle.machine.specs.Standing.{Run, Gone}
 use Rattle.machine.proofs.Steps.{sim-end, sim-print}
 use Rattle.machine.proofs.Runs.{moves-on, run-assign, run-test, run-again, run-range, run-next, run-print, run-stay, run-unfit}

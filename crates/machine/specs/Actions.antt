@@ -1,6 +1,6 @@
 -- The actions of statements, and what it means that they do what the definition says. An action has the loop variables by the depth of
 -- their FOR, the outermost first, the store, and the place of the statement's word.
-use Prim.Native.Nat.{ℕ, zero, suc, _≤_, _<_}
+use Prim.Native.Nat.{ℕ, _≤_, _<_}
 use mathlib.Core.Path.{_≡_}
 use mathlib.Core.Bool.{Bool}
 use mathlib.Core.List.{List, [], _∷_, map}
@@ -13,7 +13,7 @@ use Rattle.definition.specs.Accept.{Accepted, elements, words-needed}
 use Rattle.definition.specs.Meaning.{Environment, nowhere, bind, mean, answers}
 use Rattle.definition.specs.Assignment.{assign-tables}
 use Rattle.definition.specs.Print.{print-text}
-use Rattle.definition.specs.Run.{State, point}
+use Rattle.definition.specs.Run.{point}
 use Rattle.definition.specs.Claim.{store-image}
 
 pub record Actions : Type 0 where

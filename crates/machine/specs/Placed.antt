@@ -7,7 +7,7 @@ use Rattle.definition.specs.Text.{Text}
 use Rattle.definition.specs.Token.{Token}
 use Rattle.definition.specs.Syntax.{Term, Expression, Item, Program, end, assign, print, test, while, for, block}
 use Rattle.definition.specs.Accept.{Accepted}
-use Rattle.machine.specs.Instructions.{Instr, END, PASS, ASSIGN, PRINT, TEST, AGAIN, RANGE, NEXT, JUMP, instr}
+use Rattle.machine.specs.Instructions.{END, PASS, ASSIGN, PRINT, TEST, AGAIN, RANGE, NEXT, JUMP, instr}
 use Rattle.machine.specs.Actions.{Actions, Tests, Ranges, Assigns, Prints}
 
 module _ (w : Accepted) (A : Actions) (code : List ℕ) where

@@ -1,5 +1,5 @@
 -- How what the machine holds stands for a point of the definition's run.
-use Prim.Native.Nat.{ℕ, suc, _+_, _-_, _≤_, _<_}
+use Prim.Native.Nat.{ℕ, suc, _-_, _≤_, _<_}
 use mathlib.Core.Path.{_≡_}
 use mathlib.Core.List.{List, [], _∷_, _++_, map}
 use lib.ListN.{length, getD, drop}
@@ -8,7 +8,7 @@ use Rattle.definition.specs.Token.{Token}
 use Rattle.definition.specs.Syntax.{Term, Expression, Item, Program}
 use Rattle.definition.specs.Accept.{Accepted, elements, words-needed}
 use Rattle.definition.specs.Meaning.{Tables, Environment, nowhere, bind}
-use Rattle.definition.specs.Run.{Task, assigning, printing, testing, repeating, ranging, taking, State, state, each, point}
+use Rattle.definition.specs.Run.{Task, assigning, printing, testing, repeating, ranging, state, each, point}
 use Rattle.definition.specs.Claim.{store-image}
 use Rattle.definition.specs.declared.Stopped.{Stopped}
 use Rattle.definition.proofs.Claims.{Stop}

@@ -1,8 +1,8 @@
 -- The words of an expression after lowering. A statement's attributes have slots, its open loop variables the depths of their FORs, and
 -- strings the numbers of their elements; a relation has its place in the store's order, a closure its number among the statement's.
-use Prim.Native.Nat.{ℕ, zero, suc, _+_, _-_, _%_, _<_, _≤_}
+use Prim.Native.Nat.{ℕ, _+_, _-_, _%_, _<_}
 use mathlib.Core.Path.{_≡_}
-use mathlib.Core.Bool.{Bool, true, not, cond}
+use mathlib.Core.Bool.{true, not, cond}
 use mathlib.Core.List.{List, [], _∷_, map}
 use lib.Dec.{T, eqb}
 use lib.ListN.{length, getD}

@@ -198,11 +198,3 @@ all-read query tokens words n r h p = by r p
 
 pub not-lexed : (query : Text) (words : List ℕ) {l : Lexed} {r : Refusal} → l ≡ Lexing.Refused r → answer query words l ≡ query-tokens query → read-query query ≡ refused (number r) (place r)
 not-lexed query words {l} {r} e f = query-refused query r (sym (rw e at f))
-
--- what an answer says, where it is known
-module _ (query : Text) (tokens words : List ℕ) {r : QueryRead} (h : IsRead query tokens words r) where
-  pub was-read : {t m : ℕ} → r ≡ QueryRead.Read t m → ReadAs query (take t tokens) (take m words) t m
-  was-read e = subst (IsRead query tokens words) e h
-
-  pub was-refused : {q : Refusal} → r ≡ QueryRead.Refused q → read-query query ≡ refused (number q) (place q)
-  was-refused e = subst (IsRead query tokens words) e h

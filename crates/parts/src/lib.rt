@@ -167,7 +167,7 @@ pub fn enter_part<'a>(
     enter_at(words, n, v, place)
 }
 
-// The same place, met in few steps: each halves the list, whose texts ascend.
+// As `place_of`, in few steps: each halves the list.
 fn find_place<'a>(facts: &'a [u8], query: &'a [u8], parts: &[usize], v: usize) -> Place
     requires { ⌜ Ascending (texts-of (now facts) (now query) (now parts)) ⌝ }
     ensures value { λ r. ⌜ enter (now (facts .entry)) (now (query .entry)) v (now (parts .entry)) ≡ entered-at v (now (parts .entry)) r ⌝ }
@@ -192,7 +192,7 @@ fn find_place<'a>(facts: &'a [u8], query: &'a [u8], parts: &[usize], v: usize) -
     Place::New(low)
 }
 
-// As `enter_part`, in few steps.
+// As `enter_part`, in few steps, where the words are known to stand in byte order: the elements of facts are many.
 pub fn enter_again<'a>(
     facts: &'a [u8],
     query: &'a [u8],

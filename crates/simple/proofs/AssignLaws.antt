@@ -1,30 +1,29 @@
 -- Assignments: their words, and how the grammar reads them.
-use mathlib.Core.List.{List, [], _∷_, _++_, append-assoc, append-nil}
+use mathlib.Core.List.{List, [], _∷_, _++_, append-assoc}
 use mathlib.Core.Path.{_≡_, refl, ap, sym, subst, _∙_}
 use native.Mathlib.Omega.{arith}
 use Prim.Native.Nat.{ℕ, zero, suc, _+_, _-_, _*_, _≤_, _<_}
 use lib.ListN.{length, drop, set, getD, length-set}
 use Rattle.definition.proofs.GrammarReads.{Reads, Fails, read!, fail!, _▸_, _▹_, stop!, done!, token!, no-token! }
 use Rattle.definition.proofs.GrammarStatements.{left-side-rule, becomes-rule, alone-rule, no-left-end! }
-use Rattle.definition.specs.Grammar.{Nonterminal, Tree, Statement, Lefts, Expression}
+use Rattle.definition.specs.Grammar.{Nonterminal, Tree, Lefts, Expression}
 use Rattle.definition.specs.Grammar as Grammar
 use Rattle.definition.specs.Reader.{phrase, fixed, after-left}
 use Rattle.definition.specs.Syntax.{says, end}
-use Rattle.definition.specs.Token.{Token, token-at, COMMA, LPAREN, RPAREN, BECOMES, SEMICOLON}
-use Rattle.expressions.proofs.OperatorLaws.{paid-of, got-of}
+use Rattle.definition.specs.Token.{Token, token-at, LPAREN, BECOMES, SEMICOLON}
 use Rattle.lexer.specs.Tokens.{at-of}
 use Rattle.simple.proofs.LeftLaws.{ReadLefts, lefts-read, lefts-fail}
-use Rattle.simple.specs.Statements.{Places, Wording, Stated, stated, Span, IsStated, IsStatement, terms-in, asserted, FinishSpace, FinishRoom, Ended, semicolon, no-semicolon, Finished}
+use Rattle.simple.specs.Statements.{Places, Wording, IsStated, IsStatement, terms-in, asserted, FinishSpace, FinishRoom, semicolon, no-semicolon, Finished}
 use Rattle.terms.proofs.AtomLaws.{listed-of, unlisted-of}
 use Rattle.terms.proofs.TokenLaws.{kind-within, key-first, key-then, name-first, name-number, place-of, not-key}
 use Rattle.terms.proofs.WriteLaws.{wrote-none, wrote-then, wrote-next, wrote-before, wrote-as}
 use Rattle.terms.specs.declared.Answer.{Answer}
 use Rattle.terms.specs.declared.Answer.the-variants.{Read, Refused}
-use Rattle.terms.specs.Phrases.{kind-in, seen, Holds, Wrote, Paid, far, Parsed, IsExpression}
-use Rattle.terms.specs.Terms.{leaf-in, Listed, Unlisted, IsListed}
-use Rattle.words.proofs.Sizes.{length-leaves, length-flat}
+use Rattle.terms.specs.Phrases.{kind-in, seen, Wrote, far, IsExpression}
+use Rattle.terms.specs.Terms.{leaf-in, Listed, IsListed}
+use Rattle.words.proofs.Sizes.{length-leaves}
 use Rattle.words.specs.Fields.{word, ATTRIBUTE, TERM, RELATION-NAME, TRUTH, ASSIGN}
-use Rattle.words.specs.Raw.{leaves, flat, size, number, flat-program}
+use Rattle.words.specs.Raw.{leaves, flat, number, flat-program}
 
 pub unstated : {x : Nonterminal} {w : Wording x} {s : ℕ} {ws : List ℕ} {p n d row q : ℕ} {A B : List ℕ} → q ≤ length ws → Fails d (phrase x ∷ []) (drop p (seen ws)) row (drop q (seen ws)) → IsStated x w s ws p n d A B (Refused row q)
 unstated h f = record { bounds = h; at = λ ts i. f }

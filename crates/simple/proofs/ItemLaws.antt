@@ -1,34 +1,32 @@
 -- Items and PRINT: their words, and how the grammar reads them.
-use mathlib.Core.Bool.{Bool, true, false}
 use mathlib.Core.List.{List, [], _∷_, _++_, append-assoc, append-nil}
 use mathlib.Core.Path.{_≡_, refl, ap, sym, subst, _∙_}
 use native.Mathlib.Omega.{arith}
-use Prim.Native.Nat.{ℕ, zero, suc, _+_, _-_, _*_, _≤_, _<_}
-use lib.ListN.{length, drop, set, getD, length-set}
+use Prim.Native.Nat.{ℕ, suc, _+_, _-_, _≤_, _<_}
+use lib.ListN.{length, drop, set, getD}
 use Rattle.definition.proofs.GrammarReads.{Stands, Reads, Fails, read!, fail!, as!, as-fails!, _▸_, _▹_, stop!, done!, token!, no-token! }
 use Rattle.definition.proofs.GrammarStatements.{word-name-rule, word-string-rule, not-names-string, no-word!, labelled-rule, endl-rule, more-items-rule, end-items!, item-name!, item-string!, item-call-rule, item-sign-rule, item-string-rule, item-rule, print-rule}
-use Rattle.definition.specs.Grammar.{Nonterminal, Tree, Statement, Item, MoreItems, Word, Expression}
+use Rattle.definition.specs.Grammar.{Tree, Statement, Item, MoreItems, Word, Expression}
 use Rattle.definition.specs.Grammar as Grammar
-use Rattle.definition.specs.Reader.{phrase, fixed}
-use Rattle.definition.specs.Syntax as Syntax
+use Rattle.definition.specs.Reader.{phrase}
 use Rattle.definition.specs.Syntax.{says, end}
-use Rattle.definition.specs.Token.{Token, Terminal, token-at, sign, LPAREN, LBRACKET, RBRACKET, COMMA, SEMICOLON, PRINT, ENDL}
+use Rattle.definition.specs.Token.{Token, Terminal, token-at, LPAREN, LBRACKET, RBRACKET, COMMA, SEMICOLON, PRINT, ENDL}
 use Rattle.expressions.proofs.OperatorLaws.{left}
-use Rattle.lexer.specs.Tokens.{at-of, sign-of}
+use Rattle.lexer.specs.Tokens.{at-of}
 use Rattle.simple.proofs.AssignLaws.{unstated}
 use Rattle.simple.proofs.LeftLaws.{no-left}
-use Rattle.simple.specs.Statements.{Places, Stated, stated, Span, spans, IsStated, IsStatement, IsItem, RowsRoom, Rows, Plainly, a-call, a-compared-name, a-compared-string, another, Alone, a-name-alone, a-string-alone, Worded, a-name-word, a-string-word}
+use Rattle.simple.specs.Statements.{stated, Span, spans, IsStatement, IsItem, RowsRoom, Rows, Plainly, a-call, a-compared-name, a-compared-string, another, Alone, a-name-alone, a-string-alone, Worded, a-name-word, a-string-word}
 use Rattle.terms.proofs.LeafLaws.{leaf-name, leaf-string, Leaf, a-name-leaf, a-string-leaf, any-leaf, which-leaf, leaf-within}
 use Rattle.terms.proofs.TokenLaws.{kind-within, key-first, key-then, name-first, string-first, sign-first, name-number, string-number, place-of, not-key, not-name, not-string, not-sign}
-use Rattle.terms.proofs.WriteLaws.{wrote-none, wrote-one, wrote-then, wrote-next, wrote-as}
+use Rattle.terms.proofs.WriteLaws.{wrote-one, wrote-then, wrote-next, wrote-as}
 use Rattle.terms.specs.declared.Answer.{Answer}
 use Rattle.terms.specs.declared.Answer.the-variants.{Read, Refused}
-use Rattle.terms.specs.Phrases.{kind-in, seen, Holds, Wrote, Paid, far, Parsed, IsExpression}
+use Rattle.terms.specs.Phrases.{kind-in, seen, Holds, Wrote, far, IsExpression}
 use Rattle.terms.specs.Terms.{leaf-in, IsSign}
-use Rattle.words.proofs.Sizes.{length-flat, length-items, length-item}
+use Rattle.words.proofs.Sizes.{length-item}
 use Rattle.words.specs.Fields as Fields
 use Rattle.words.specs.Fields.{word, WORD, ROWS, SAY, LINE-END}
-use Rattle.words.specs.Raw.{leaf, leaves, flat, size, number, flat-item, size-item, flat-items, size-items, flat-program}
+use Rattle.words.specs.Raw.{leaf, leaves, flat, flat-item, flat-items, flat-program}
 
 -- an item that is an expression
 rows-words : (ts : List Token) (t : Tree Expression) (n : ℕ) → flat (says ts t) n ++ (word ROWS n 0 0 ∷ []) ≡ flat-item (says ts (Grammar.item-expression t)) n

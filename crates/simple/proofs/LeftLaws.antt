@@ -1,17 +1,16 @@
 -- The terms of a left side in brackets, as the grammar reads them; and the same terms as those of TRUE.
-use mathlib.Core.Bool.{Bool, true, false}
-use mathlib.Core.List.{List, [], _∷_, _++_}
-use mathlib.Core.Path.{_≡_, refl, ap, sym, subst, _∙_}
+use mathlib.Core.Bool.{true, false}
+use mathlib.Core.List.{List, [], _∷_}
+use mathlib.Core.Path.{_≡_, refl, ap, sym, _∙_}
 use native.Mathlib.Omega.{arith}
 use Prim.Native.Nat.{ℕ, suc, _+_, _≤_, _<_}
 use lib.ListN.{length, drop}
-use Rattle.definition.proofs.GrammarReads.{Reads, Fails, read!, fail!, as!, as-fails!, _▸_, _▹_, stop!, done!, token!, no-token!, next}
+use Rattle.definition.proofs.GrammarReads.{Reads, Fails, read!, fail!, as!, as-fails!, _▸_, _▹_, stop!, done!, no-token!, next}
 use Rattle.definition.proofs.GrammarStatements.{left-name-rule, left-string-rule, names-string, not-names-string, no-left!, lefts-rule, no-lefts!, more-lefts-rule, end-lefts! }
 use Rattle.definition.specs.Grammar.{Tree, Left, Lefts, MoreLefts, lefts, no-lefts, end-lefts, more-lefts, left-name, left-string}
 use Rattle.definition.specs.Reader.{phrase, fixed}
-use Rattle.definition.specs.Syntax as Syntax
 use Rattle.definition.specs.Syntax.{says}
-use Rattle.definition.specs.Token.{Token, key, COMMA, RPAREN}
+use Rattle.definition.specs.Token.{Token, key, RPAREN}
 use Rattle.terms.proofs.LeafLaws.{leaf-name, leaf-string, leaf-none, leaf-positive, Leaf, a-name-leaf, a-string-leaf, any-leaf, which-leaf}
 use Rattle.terms.proofs.TokenLaws.{key-then, not-key, name-first, string-first, name-number, string-number, not-name, not-string}
 use Rattle.simple.specs.Statements.{terms-in}

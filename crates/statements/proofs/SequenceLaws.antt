@@ -7,7 +7,7 @@ use Prim.Native.Nat.{ℕ, suc, _+_, _-_, _≤_, _<_}
 use lib.ListN.{length, drop}
 use Rattle.definition.proofs.BoolLaws.{apart}
 use Rattle.definition.proofs.GrammarFlat.{reads-size}
-use Rattle.definition.proofs.GrammarReads.{next, Reads, Fails, as!, as-fails!, _▸_, _▹_, stop!, done!, Upto}
+use Rattle.definition.proofs.GrammarReads.{next, Reads, Fails, as!, as-fails!, _▸_, _▹_, stop!, done! }
 use Rattle.definition.proofs.GrammarStatements.{begins-statement, not-statement, no-statement!, end-statements!, more-statements-rule}
 use Rattle.definition.specs.Grammar.{Nonterminal, Tree, Statement, MoreStatements}
 use Rattle.definition.specs.Grammar as Grammar
@@ -15,7 +15,7 @@ use Rattle.definition.specs.Reader.{phrase}
 use Rattle.definition.specs.Syntax as Syntax
 use Rattle.definition.specs.Syntax.{says, size, end, assign, print, test, while, for, block}
 use Rattle.definition.specs.Text.{Text}
-use Rattle.definition.specs.Token.{Token}
+use Rattle.definition.specs.Token.{Token, Terminal}
 use Rattle.expressions.proofs.OperatorLaws.{left}
 use Rattle.lexer.proofs.Held.{length-terminals, terminals-held}
 use Rattle.lexer.specs.Tokens.{at-of, tokens-of}
@@ -124,13 +124,20 @@ starts-not ws q h = not-statement (next (drop q (seen ws))) (not-name ws q (h .n
 pub no-statement : {ws : List ℕ} {p n d : ℕ} {A B : List ℕ} → p ≤ length ws → NotFirst (kind-in ws p) → IsStatement ws p n d A B (Refused 10 p)
 no-statement {ws} {p} l h = unstated l (no-statement! (starts-not ws p h))
 
+-- further statements read by a loop: it has come from the tokens ts to l, and what more statements do at l they do at ts, with the trees
+-- read so far in front
+pub record Upto (d : ℕ) (ts l : List Terminal) : Type 0 where
+  pub put : Tree MoreStatements → Tree MoreStatements
+  pub reads : (a : Tree MoreStatements) (r : List Terminal) → Reads d (phrase MoreStatements ∷ []) l (a, tt) r → Reads d (phrase MoreStatements ∷ []) ts (put a, tt) r
+  pub fails : (n : ℕ) (r : List Terminal) → Fails d (phrase MoreStatements ∷ []) l n r → Fails d (phrase MoreStatements ∷ []) ts n r
+
 -- the statements up to q are read: what stands there is read behind them
 pub record Sofar (ws : List ℕ) (ts : List Token) (p n d : ℕ) (A A′ : List ℕ) (q m : ℕ) : Type 0 where
   pub first : Tree Statement
   pub at : ℕ
   pub one : Reads d (phrase Statement ∷ []) (drop p (seen ws)) (first, tt) (drop at (seen ws))
   pub here : at ≡ p + size first
-  pub upto : Upto d (phrase MoreStatements) (drop at (seen ws)) (drop q (seen ws))
+  pub upto : Upto d (drop at (seen ws)) (drop q (seen ws))
   pub words : List ℕ
   pub said : (b : Tree MoreStatements) → flat-program (says ts first p (says ts (upto .put b) at)) n ≡ words ++ flat-program (says ts b q) m
   pub wrote : Wrote A n words m A′

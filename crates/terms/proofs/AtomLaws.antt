@@ -3,7 +3,7 @@ use mathlib.Core.List.{List, [], _∷_, _++_}
 use mathlib.Core.Logic.{_⊎_, ⊎-elim}
 use mathlib.Core.Path.{_≡_, refl, ap, sym, subst, _∙_}
 use native.Mathlib.Omega.{arith}
-use Prim.Native.Nat.{ℕ, suc, _+_, _-_, _≤_, _<_}
+use Prim.Native.Nat.{ℕ, _+_, _-_, _≤_, _<_}
 use lib.ListN.{length, drop, set}
 use lib.Seq.{sets}
 use Rattle.definition.proofs.GrammarReads.{Rule, Reads, Fails, read!, fail!, _▸_, _▹_, stop!, done!, token!, no-token! }
@@ -12,14 +12,14 @@ use Rattle.definition.specs.Grammar.{Tree, Nonterminal, Primary, Terms, Term, a
 use Rattle.definition.specs.Reader.{phrase, fixed}
 use Rattle.definition.specs.Syntax.{says}
 use Rattle.definition.specs.Token.{Token, token-at, Sign, sign, key, COMMA, LPAREN, RPAREN, TRUE, FALSE}
-use Rattle.terms.proofs.LeafLaws.{ATerm, a-term, Leaf, a-name-leaf, a-string-leaf, any-leaf, which-leaf, leaf-positive, no-term, leaf-within}
+use Rattle.terms.proofs.LeafLaws.{a-term, Leaf, a-name-leaf, a-string-leaf, any-leaf, which-leaf, leaf-positive, no-term, leaf-within}
 use Rattle.terms.proofs.TermsLaws.{terms-read, terms-fail}
 use Rattle.terms.proofs.TokenLaws.{kind-within, key-first, key-then, name-first, string-first, sign-first, sign-code, not-key, not-name, not-string, not-sign, name-number}
 use Rattle.terms.proofs.WriteLaws.{wrote-next, wrote-before, wrote-as}
 use Rattle.terms.specs.declared.Answer.{Answer}
 use Rattle.terms.specs.declared.Answer.the-variants.{Read, Refused}
-use Rattle.terms.specs.Phrases.{kind-in, seen, Holds, Wrote, Meaning, Got, Paid, Parsed, IsPrimary}
-use Rattle.terms.specs.Terms.{leaf-of, leaf-in, Listed, Unlisted, listed, IsListed, Truth, is-true, is-false, IsSign, Plain}
+use Rattle.terms.specs.Phrases.{kind-in, seen, Meaning, Parsed, IsPrimary}
+use Rattle.terms.specs.Terms.{leaf-of, leaf-in, Listed, Unlisted, IsListed, Truth, is-true, is-false, IsSign, Plain}
 use Rattle.words.proofs.Sizes.{length-leaves}
 use Rattle.words.specs.Fields.{word, TERM, RELATION-NAME, ATOM, TRUTH, FALSITY, ORDER}
 use Rattle.words.specs.Raw.{leaf, leaves, flat, number, sign-number}

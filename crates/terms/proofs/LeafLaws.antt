@@ -1,18 +1,18 @@
 -- A term at a token: its word, and what the grammar reads there.
 use mathlib.Core.Bool.{Bool, true, false}
 use mathlib.Core.List.{List, [], _∷_, _++_}
-use mathlib.Core.Path.{_≡_, refl, ap, sym, subst, _∙_}
+use mathlib.Core.Path.{_≡_, refl, ap, sym, _∙_}
 use native.Mathlib.Omega.{arith}
-use Prim.Native.Nat.{ℕ, _+_, _*_, _≤_, _<_}
+use Prim.Native.Nat.{ℕ, _+_, _≤_, _<_}
 use lib.Dec.{eqb, ltb}
 use lib.ListN.{length, drop}
 use borrow.Author.Tests.{eq-eqb, ne-eqb, ltb-true, ltb-false, eqb-true, eqb-false}
-use Rattle.definition.proofs.GrammarReads.{Reads, Fails, read!, done!, next, a-name, a-string, a-key}
+use Rattle.definition.proofs.GrammarReads.{Reads, read!, done!, next}
 use Rattle.definition.proofs.GrammarExpressions.{term-name-rule, term-string-rule, term-any-rule, begins-term, not-term}
 use Rattle.definition.specs.Grammar.{Tree, Term, term-name, term-string, term-any, flat}
 use Rattle.definition.specs.Reader.{phrase}
 use Rattle.definition.specs.Syntax.{says}
-use Rattle.definition.specs.Token.{Token, UNDERSCORE, key}
+use Rattle.definition.specs.Token.{Token}
 use Rattle.terms.proofs.TokenLaws.{kind-past, name-first, string-first, key-first, name-number, string-number, not-name, not-string, not-key}
 use Rattle.terms.specs.Phrases.{kind-in, seen, Holds}
 use Rattle.terms.specs.Terms.{leaf-of, leaf-in}

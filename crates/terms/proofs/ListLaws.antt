@@ -1,8 +1,8 @@
 -- A list of terms in brackets, read from left to right.
 use mathlib.Core.List.{List, [], _∷_, _++_, append-assoc}
-use mathlib.Core.Path.{_≡_, refl, ap, sym, subst, _∙_}
+use mathlib.Core.Path.{_≡_, refl, sym, subst, _∙_}
 use native.Mathlib.Omega.{arith}
-use Prim.Native.Nat.{ℕ, _+_, _*_, _≤_, _<_}
+use Prim.Native.Nat.{ℕ, _+_, _*_, _≤_}
 use lib.ListN.{length, set, length-set}
 use Rattle.definition.specs.Token.{COMMA, RPAREN}
 use Rattle.terms.proofs.LeafLaws.{leaf-within}
@@ -10,7 +10,7 @@ use Rattle.terms.proofs.TokenLaws.{kind-within}
 use Rattle.terms.proofs.WriteLaws.{wrote-none, wrote-next}
 use Rattle.terms.specs.declared.Answer.the-variants.{Read, Refused}
 use Rattle.terms.specs.Phrases.{kind-in, Wrote}
-use Rattle.terms.specs.Terms.{leaf-in, Items, last-item, more-items, Broken, no-item, no-comma, later, Brackets, no-items, items, Listed, Unlisted, IsListed}
+use Rattle.terms.specs.Terms.{leaf-in, Items, last-item, more-items, Broken, no-item, no-comma, later, no-items, items, IsListed}
 
 -- the terms from p up to q are read, and another must stand at q
 pub record Run (ws : List ℕ) (k p n : ℕ) (A A′ : List ℕ) (q m : ℕ) : Type 0 where

@@ -1,16 +1,15 @@
 -- The terms of an atom in brackets, as the grammar reads them.
-use mathlib.Core.List.{List, [], _∷_, _++_}
-use mathlib.Core.Path.{_≡_, refl, ap, sym, subst, _∙_}
+use mathlib.Core.List.{List, [], _∷_}
+use mathlib.Core.Path.{_≡_, refl, ap, sym, _∙_}
 use native.Mathlib.Omega.{arith}
-use Prim.Native.Nat.{ℕ, suc, _+_, _≤_, _<_}
-use lib.ListN.{length, drop}
+use Prim.Native.Nat.{ℕ, _+_, _≤_}
+use lib.ListN.{drop}
 use Rattle.definition.proofs.GrammarReads.{Reads, Fails, read!, fail!, as!, as-fails!, _▸_, _▹_, stop!, done!, token!, no-token! }
 use Rattle.definition.proofs.GrammarExpressions.{no-term!, terms-rule, no-terms!, more-terms-rule, end-terms! }
 use Rattle.definition.specs.Grammar.{Tree, Term, Terms, MoreTerms, terms, no-terms, end-terms, more-terms}
 use Rattle.definition.specs.Reader.{phrase, fixed}
-use Rattle.definition.specs.Syntax as Syntax
 use Rattle.definition.specs.Syntax.{says}
-use Rattle.definition.specs.Token.{Token, key, COMMA, RPAREN}
+use Rattle.definition.specs.Token.{Token, key, RPAREN}
 use Rattle.terms.proofs.LeafLaws.{a-term, leaf-none, term-begins, no-term}
 use Rattle.terms.proofs.TokenLaws.{key-then, not-key}
 use Rattle.terms.specs.Phrases.{kind-in, seen, Holds}

@@ -6,7 +6,7 @@ use native.Mathlib.Omega.{arith}
 use Prim.Native.Nat.{ℕ, zero, suc, _+_, _≤_, _<_}
 use lib.Dec.{eqb, ltb}
 use lib.ListN.{length, drop, getD}
-use borrow.Author.Tests.{eq-eqb, ne-eqb, lt-ltb, le-ltb, ltb-true, ltb-false, eqb-true, eqb-false}
+use borrow.Author.Tests.{ne-eqb, lt-ltb, le-ltb, ltb-true, ltb-false, eqb-true, eqb-false}
 use Rattle.definition.proofs.GrammarReads.{Next, nothing, a-name, a-string, a-sign, a-key, next}
 use Rattle.definition.specs.Text.{if_then_else_}
 use Rattle.definition.specs.Token.{Sign, equal, unequal, less, at-most, greater, at-least, Terminal, name, string, sign, key, Token, terminals, token-at}

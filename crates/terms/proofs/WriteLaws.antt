@@ -1,10 +1,10 @@
 -- Words written one after the other, and a word written once what follows it is there.
-use mathlib.Core.List.{List, [], _∷_, _++_, append-assoc}
+use mathlib.Core.List.{List, [], _∷_, _++_}
 use mathlib.Core.Path.{_≡_, refl, ap, sym, _∙_}
 use native.Mathlib.Omega.{arith}
-use Prim.Native.Nat.{ℕ, zero, suc, _+_, _≤_, _<_}
-use lib.ListN.{length, set, length-set, length-append}
-use lib.Seq.{sets, length-sets, set-comm}
+use Prim.Native.Nat.{ℕ, suc, _+_, _<_}
+use lib.ListN.{length, set, length-append}
+use lib.Seq.{sets, set-comm}
 use Rattle.terms.specs.Phrases.{Wrote}
 
 sets-append : (A : List ℕ) (n : ℕ) (xs ys : List ℕ) → sets A n (xs ++ ys) ≡ sets (sets A n xs) (n + length xs) ys
@@ -35,9 +35,6 @@ wrote-before {A} {A₁} {n} {m} {xs} f w = let e : n + 1 ≡ suc n = omega arith
   is = ap (λ B. set B n w) (f .is) ∙ set-before A n (n + 1) w xs (omega arith) ∙ ap (λ i. sets (set A n w) i xs) e;
   many = omega (arith, f .many);
 }
-
-pub wrote-length : {A A₁ : List ℕ} {n m : ℕ} {xs : List ℕ} → Wrote A n xs m A₁ → length A₁ ≡ length A
-wrote-length {A} {n = n} {xs = xs} f = ap length (f .is) ∙ length-sets A n xs
 
 pub wrote-as : {A A₁ : List ℕ} {n m : ℕ} {xs ys : List ℕ} → xs ≡ ys → Wrote A n xs m A₁ → Wrote A n ys m A₁
 wrote-as e f = rw e at f

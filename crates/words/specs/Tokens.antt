@@ -1,5 +1,5 @@
 -- A program whose names and strings are tokens of a list, and whose statements' places are small: so is what was read from a text.
-use Prim.Native.Nat.{ℕ, _<_}
+use Prim.Native.Nat.{_<_}
 use mathlib.Core.Path.{_≡_}
 use mathlib.Core.List.{List, [], _∷_}
 use lib.ListN.{length}

@@ -1,6 +1,5 @@
 use Rattle.digits.specs.Packed.{count}
-use native.Mathlib.Omega.{arith}
-use borrow.Author.Tests.{eq-eqb, ne-eqb, lt-ltb, le-ltb, le-leb, lt-leb}
+use borrow.Author.Tests.{eq-eqb, ne-eqb, lt-ltb, le-ltb}
 use Rattle.digits.proofs.count.Statement.{statement}
 use Rattle.digits.proofs.count.Tie as tie
 

@@ -1,6 +1,5 @@
 use Rattle.digits.specs.Packed.{has}
-use native.Mathlib.Omega.{arith}
-use borrow.Author.Tests.{eq-eqb, ne-eqb, lt-ltb, le-ltb, le-leb, lt-leb}
+use borrow.Author.Tests.{eq-eqb, ne-eqb}
 use Rattle.digits.proofs.has.Statement.{statement}
 use Rattle.digits.proofs.has.Tie as tie
 

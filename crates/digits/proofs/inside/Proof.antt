@@ -1,7 +1,5 @@
 use mathlib.Core.Path.{sym, _∙_}
 use Rattle.digits.specs.Packed.{inside}
-use native.Mathlib.Omega.{arith}
-use borrow.Author.Tests.{eq-eqb, ne-eqb, lt-ltb, le-ltb, le-leb, lt-leb}
 use borrow.Author.Needs.{needs}
 use Rattle.digits.proofs.inside.Statement.{statement}
 use Rattle.digits.proofs.inside.Tie as tie

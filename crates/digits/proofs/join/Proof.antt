@@ -1,6 +1,5 @@
 use Rattle.digits.specs.Packed.{joined}
-use native.Mathlib.Omega.{arith}
-use mathlib.Core.Path.{_≡_, refl, sym, ap, ap₂, _∙_}
+use mathlib.Core.Path.{refl, _∙_}
 use borrow.Author.Needs.{needs}
 use Rattle.digits.proofs.join.Statement.{statement}
 use Rattle.digits.proofs.join.Tie as tie

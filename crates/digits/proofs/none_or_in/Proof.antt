@@ -1,6 +1,5 @@
 use Rattle.digits.specs.Packed.{none-or-in}
-use native.Mathlib.Omega.{arith}
-use borrow.Author.Tests.{eq-eqb, ne-eqb, lt-ltb, le-ltb, le-leb, lt-leb}
+use borrow.Author.Tests.{eq-eqb, ne-eqb}
 use borrow.Author.Needs.{needs}
 use Rattle.digits.proofs.none_or_in.Statement.{statement}
 use Rattle.digits.proofs.none_or_in.Tie as tie

@@ -1,6 +1,6 @@
 use Rattle.digits.specs.Packed.{put}
 use native.Mathlib.Omega.{arith}
-use borrow.Author.Tests.{eq-eqb, ne-eqb, lt-ltb, le-ltb, le-leb, lt-leb}
+use borrow.Author.Tests.{eq-eqb, ne-eqb}
 use borrow.Author.Needs.{needs}
 use Rattle.digits.proofs.put.Statement.{statement}
 use Rattle.digits.proofs.put.Tie as tie

@@ -1,5 +1,5 @@
 use native.Mathlib.Omega.{arith}
-use mathlib.Core.Path.{_≡_, refl, _∙_}
+use mathlib.Core.Path.{refl, _∙_}
 use Rattle.digits.specs.Packed.{without}
 use borrow.Author.Needs.{needs}
 use Rattle.digits.proofs.remove.Statement.{statement}

@@ -5,20 +5,13 @@ use Rattle.definition.specs.Calls.{part-text}
 use Rattle.element.specs.Addresses.{address}
 use Rattle.element.proofs.element.Statement.{statement}
 use Rattle.element.proofs.element.Tie as tie
-use Rattle.element.proofs.element.Reads as reads
-use Rattle.element.proofs.element.Lts as lts
-use Rattle.element.proofs.part_at.Reads as part-at-reads
-use Rattle.element.proofs.word_of.Reads as word-of-reads
 
--- src/lib.rt:80:27
 word-of-requires : tie.Need-word-of-requires
 word-of-requires c κs = search needs
 
--- src/lib.rt:80:5
 part-at-requires : tie.Need-part-at-requires
 part-at-requires c κs = search needs
 
--- src/lib.rt:76:1
 returns : tie.Need-returns
 returns c =
     let s = c .before .before .before .before in

@@ -3,15 +3,10 @@ use denote.Ref.{now, ptr}
 use Rattle.element.proofs.Words.{facts-begins, facts-part, facts-address, query-begins, query-part, query-address}
 use Rattle.element.proofs.part_at.Statement.{statement}
 use Rattle.element.proofs.part_at.Tie as tie
-use Rattle.element.proofs.part_at.Reads as reads
-use Rattle.element.proofs.part_at.Lts as lts
-use Rattle.element.proofs.bytes_at.Reads as bytes-at-reads
 
--- src/lib.rt:36:9
 bytes-at-requires : tie.Need-bytes-at-requires
 bytes-at-requires c κs = let s = c .before .before .before in facts-begins (now (s .args .facts)) (now (s .args .query)) (s .args .w) (c .if1 .taken) (s .pre)
 
--- src/lib.rt:36:9
 returns : tie.Need-returns
 returns c =
     let s = c .before .before .before .before in (
@@ -19,11 +14,9 @@ returns c =
       c .bytes-at .ensures .1 ∙ sym (facts-address (now (s .args .facts)) (now (s .args .query)) (s .args .w) (c .before .if1 .taken) (ptr (s .args .facts)) (ptr (s .args .query))),
     )
 
--- src/lib.rt:38:5
 bytes-at-requires-2 : tie.Need-bytes-at-requires-2
 bytes-at-requires-2 c κs = let s = c .before .before .before in query-begins (now (s .args .facts)) (now (s .args .query)) (s .args .w) (c .if1 .left) (s .pre)
 
--- src/lib.rt:28:1
 returns-2 : tie.Need-returns-2
 returns-2 c =
     let s = c .before .before .before .before in (

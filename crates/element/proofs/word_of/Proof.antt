@@ -6,74 +6,56 @@ use Rattle.acceptance.proofs.Answers.{taken, not-taken}
 use Rattle.element.proofs.Words.{refused-right, few-elements, past-right, inside-right}
 use Rattle.element.proofs.word_of.Statement.{statement}
 use Rattle.element.proofs.word_of.Tie as tie
-use Rattle.element.proofs.word_of.Reads as reads
-use Rattle.element.proofs.word_of.Lts as lts
-use Rattle.acceptance.proofs.accept.Reads as accept-reads
 
--- src/lib.rt:56:9
 slice-aggregate-accept : tie.Need-slice-aggregate-accept
 slice-aggregate-accept c = search needs
 
--- src/lib.rt:57:9
 slice-aggregate-accept-2 : tie.Need-slice-aggregate-accept-2
 slice-aggregate-accept-2 c = search needs
 
--- src/lib.rt:58:9
 slice-aggregate-accept-3 : tie.Need-slice-aggregate-accept-3
 slice-aggregate-accept-3 c = search needs
 
--- src/lib.rt:59:9
 slice-aggregate-accept-4 : tie.Need-slice-aggregate-accept-4
 slice-aggregate-accept-4 c = search needs
 
--- src/lib.rt:60:9
 slice-aggregate-accept-5 : tie.Need-slice-aggregate-accept-5
 slice-aggregate-accept-5 c = search needs
 
--- src/lib.rt:61:9
 slice-aggregate-accept-6 : tie.Need-slice-aggregate-accept-6
 slice-aggregate-accept-6 c = search needs
 
--- src/lib.rt:62:9
 slice-aggregate-accept-7 : tie.Need-slice-aggregate-accept-7
 slice-aggregate-accept-7 c = search needs
 
--- src/lib.rt:53:11
 accept-requires : tie.Need-accept-requires
 accept-requires c κs = ((refl, refl), ((refl, refl), ((refl, (refl, refl)), zeros-below 2048 4096 (omega arith))))
 
--- src/lib.rt:64:30
 enum-told : tie.Need-enum-told
 enum-told c = search needs
 
--- src/lib.rt:65:25
 enum-known-s : tie.Need-enum-known-s
 enum-known-s c = search needs
 
--- src/lib.rt:67:17
 mul-result : tie.Need-mul-result
 mul-result c =
     let t = taken _ _ _ _ _ _ _ _ (c .before .before .before .before .before .before .before .before .before .before .before .before .accept .ensures) _ (c .before .before .before .s .given .1) in
     omega (arith, c .if1 .taken, few-elements _ _ (c .before .before .before .before .before .before .before .before .before .before .before .before .before .before .before .before .before .before .before .before .before .before .args .n) _ _ _ _ _ _ _ _ (t .sized))
 
--- src/lib.rt:67:17
 array-read-result : tie.Need-array-read-result
 array-read-result c =
     let t = taken _ _ _ _ _ _ _ _ (c .before .before .before .before .before .before .before .before .before .before .before .before .accept .ensures) _ (c .before .before .before .s .given .1) in
     omega (arith, c .if1 .taken, few-elements _ _ (c .before .before .before .before .before .before .before .before .before .before .before .before .before .before .before .before .before .before .before .before .before .before .args .n) _ _ _ _ _ _ _ _ (t .sized))
 
--- src/lib.rt:42:1
 returns : tie.Need-returns
 returns c =
     let r = refused-right _ _ _ _ _ (not-taken _ _ _ _ _ _ _ _ (c .before .before .before .before .before .before .before .before .before .accept .ensures) _ (c .enum-told .given .1)) in (r .part, r .begins)
 
--- src/lib.rt:42:1
 returns-2 : tie.Need-returns-2
 returns-2 c =
     let t = taken _ _ _ _ _ _ _ _ (c .before .before .before .before .before .before .before .before .before .before .before .before .accept .ensures) _ (c .before .before .before .s .given .1) in
     let r = inside-right _ _ _ _ _ _ _ _ _ _ _ (t .sized) (c .if1 .taken) in (r .part, r .begins)
 
--- src/lib.rt:42:1
 returns-3 : tie.Need-returns-3
 returns-3 c =
     let t = taken _ _ _ _ _ _ _ _ (c .before .before .before .before .before .before .before .before .before .before .before .before .accept .ensures) _ (c .before .before .before .s .given .1) in

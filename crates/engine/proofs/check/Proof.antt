@@ -5,61 +5,43 @@ use Rattle.engine.proofs.Begins.{held, not-held, few-held, size-held}
 use borrow.Author.Needs.{needs}
 use Rattle.engine.proofs.check.Statement.{statement}
 use Rattle.engine.proofs.check.Tie as tie
-use Rattle.engine.proofs.check.Reads as reads
-use Rattle.engine.proofs.check.Lts as lts
-use Rattle.engine.proofs.not_passed.Reads as not-passed-reads
-use Rattle.engine.proofs.passed.Reads as passed-reads
-use Rattle.engine.proofs.read.Reads as read-reads
 
--- src/lib.rt:146:30
 slice-aggregate-read : tie.Need-slice-aggregate-read
 slice-aggregate-read c = search needs
 
--- src/lib.rt:146:46
 slice-aggregate-read-2 : tie.Need-slice-aggregate-read-2
 slice-aggregate-read-2 c = search needs
 
--- src/lib.rt:146:59
 slice-aggregate-read-3 : tie.Need-slice-aggregate-read-3
 slice-aggregate-read-3 c = search needs
 
--- src/lib.rt:146:11
 read-requires : tie.Need-read-requires
 read-requires c κs = search needs
 
--- src/lib.rt:147:24
 enum-known-q : tie.Need-enum-known-q
 enum-known-q c = search needs
 
--- src/lib.rt:147:30
 not-passed-requires : tie.Need-not-passed-requires
 not-passed-requires c κs = search needs
 
--- src/lib.rt:148:25
 enum-known-s : tie.Need-enum-known-s
 enum-known-s c = search needs
 
--- src/lib.rt:148:52
 array-share-prefix-relations : tie.Need-array-share-prefix-relations
 array-share-prefix-relations c = let t = held _ _ _ _ _ (c .before .before .before .before .before .before .read .ensures) _ (c .before .s .given .1) in t .fits .relations-inside
 
--- src/lib.rt:148:52
 slice-aggregate-passed : tie.Need-slice-aggregate-passed
 slice-aggregate-passed c = let t = held _ _ _ _ _ (c .before .before .before .before .before .before .before .read .ensures) _ (c .before .before .s .given .1) in sym (length-take-le _ _ (t .fits .relations-inside))
 
--- src/lib.rt:148:79
 cast-passed : tie.Need-cast-passed
 cast-passed c = let t = held _ _ _ _ _ (c .before .before .before .before .before .before .before .before .read .ensures) _ (c .before .before .before .s .given .1) in omega (arith, few-held _ _ _ _ _ _ _ (t .fits))
 
--- src/lib.rt:148:31
 passed-requires : tie.Need-passed-requires
 passed-requires c κs = let t = held _ _ _ _ _ (c .before .before .before .before .before .before .before .before .read .ensures) _ (c .before .before .before .s .given .1) in (t .fits .given .few-relations, few-held _ _ _ _ _ _ _ (t .fits))
 
--- src/lib.rt:140:1
 returns : tie.Need-returns
 returns c = c .not-passed .ensures (not-held _ _ _ _ _ (c .before .before .before .before .before .before .before .read .ensures) _ (c .before .before .q .given .1))
 
--- src/lib.rt:140:1
 returns-2 : tie.Need-returns-2
 returns-2 c = let t = held _ _ _ _ _ (c .before .before .before .before .before .before .before .before .before .read .ensures) _ (c .before .before .before .before .s .given .1) in c .passed .ensures (t .w) (t .fits .given .accepted) (t .fits .given .relations-are) (size-held _ _ _ _ _ _ _ (t .fits))
 

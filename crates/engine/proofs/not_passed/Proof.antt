@@ -4,23 +4,16 @@ use denote.Ref.{now}
 use Rattle.engine.proofs.Checks.{nothing, check-refused}
 use Rattle.engine.proofs.not_passed.Statement.{statement}
 use Rattle.engine.proofs.not_passed.Tie as tie
-use Rattle.engine.proofs.not_passed.Reads as reads
-use Rattle.engine.proofs.not_passed.Lts as lts
-use Rattle.layout.proofs.records.Reads as records-reads
 
--- src/lib.rt:34:40
 array-share-prefix-none : tie.Need-array-share-prefix-none
 array-share-prefix-none c = search needs
 
--- src/lib.rt:34:40
 slice-aggregate-records : tie.Need-slice-aggregate-records
 slice-aggregate-records c = search needs
 
--- src/lib.rt:34:18
 records-requires : tie.Need-records-requires
 records-requires c κs = search needs
 
--- src/lib.rt:28:1
 returns : tie.Need-returns
 returns c =
     let s = c .before .before .before .before in

@@ -7,78 +7,57 @@ use Rattle.engine.proofs.Begins.{held, not-held}
 use borrow.Author.Needs.{needs}
 use Rattle.engine.proofs.run.Statement.{statement}
 use Rattle.engine.proofs.run.Tie as tie
-use Rattle.engine.proofs.run.Reads as reads
-use Rattle.engine.proofs.run.Lts as lts
-use Rattle.engine.proofs.read.Reads as read-reads
-use Rattle.engine.proofs.with_texts.Reads as with-texts-reads
 
--- src/lib.rt:288:30
 slice-aggregate-read : tie.Need-slice-aggregate-read
 slice-aggregate-read c = search needs
 
--- src/lib.rt:288:46
 slice-aggregate-read-2 : tie.Need-slice-aggregate-read-2
 slice-aggregate-read-2 c = search needs
 
--- src/lib.rt:288:59
 slice-aggregate-read-3 : tie.Need-slice-aggregate-read-3
 slice-aggregate-read-3 c = search needs
 
--- src/lib.rt:288:11
 read-requires : tie.Need-read-requires
 read-requires c κs = search needs
 
--- src/lib.rt:289:24
 enum-known-q : tie.Need-enum-known-q
 enum-known-q c = search needs
 
--- src/lib.rt:290:25
 enum-known-s : tie.Need-enum-known-s
 enum-known-s c = search needs
 
--- src/lib.rt:293:13
 array-share-prefix-relations : tie.Need-array-share-prefix-relations
 array-share-prefix-relations c = let t = held _ _ _ _ _ (c .before .before .before .before .before .before .read .ensures) _ (c .before .s .given .1) in t .fits .relations-inside
 
--- src/lib.rt:293:13
 slice-aggregate-with-texts : tie.Need-slice-aggregate-with-texts
 slice-aggregate-with-texts c = let t = held _ _ _ _ _ (c .before .before .before .before .before .before .before .read .ensures) _ (c .before .before .s .given .1) in sym (length-take-le _ _ (t .fits .relations-inside))
 
--- src/lib.rt:294:13
 array-share-prefix-places : tie.Need-array-share-prefix-places
 array-share-prefix-places c = let t = held _ _ _ _ _ (c .before .before .before .before .before .before .before .read .ensures) _ (c .before .before .s .given .1) in t .fits .places-inside
 
--- src/lib.rt:294:13
 slice-aggregate-with-texts-2 : tie.Need-slice-aggregate-with-texts-2
 slice-aggregate-with-texts-2 c = let t = held _ _ _ _ _ (c .before .before .before .before .before .before .before .before .read .ensures) _ (c .before .before .before .s .given .1) in sym (length-take-le _ _ (t .fits .places-inside))
 
--- src/lib.rt:295:13
 array-share-prefix-low : tie.Need-array-share-prefix-low
 array-share-prefix-low c = let t = held _ _ _ _ _ (c .before .before .before .before .before .before .before .before .read .ensures) _ (c .before .before .before .s .given .1) in t .fits .words-inside
 
--- src/lib.rt:295:13
 slice-aggregate-with-texts-3 : tie.Need-slice-aggregate-with-texts-3
 slice-aggregate-with-texts-3 c = let t = held _ _ _ _ _ (c .before .before .before .before .before .before .before .before .before .read .ensures) _ (c .before .before .before .before .s .given .1) in sym (length-take-le _ _ (t .fits .words-inside))
 
--- src/lib.rt:290:31
 with-texts-requires : tie.Need-with-texts-requires
 with-texts-requires c κs = let t = held _ _ _ _ _ (c .before .before .before .before .before .before .before .before .before .before .before .read .ensures) _ (c .before .before .before .before .before .before .s .given .1) in (t .fits .given .few-relations, t .fits .given .few-places, t .fits .given .short)
 
--- src/lib.rt:276:1
 returns : tie.Need-returns
 returns c =
     let s = c .before .before .before .before .before .before .before .before .before .before .before .before .before .before in
     run-refused document-01 (now (s .args .facts)) (now (s .args .query)) (s .args .budget) (now (s .args .store)) (now (s .args .output)) _ (not-held _ _ _ _ _ (c .before .before .before .before .before .before .read .ensures) _ (c .before .q .given .1))
 
--- src/lib.rt:276:1
 same-length : tie.Need-same-length
 same-length c = search needs
 
--- src/lib.rt:276:1
 same-length-2 : tie.Need-same-length-2
 same-length-2 c = search needs
 
--- src/lib.rt:276:1
 returns-2 : tie.Need-returns-2
 returns-2 c = let t = held _ _ _ _ _ (c .before .before .before .before .before .before .before .before .before .before .before .before .before .before .before .before .read .ensures) _ (c .before .before .before .before .before .before .before .before .before .before .before .s .given .1) in c .before .before .before .before .with-texts .ensures (t .w) (t .fits .given)
 

@@ -6,23 +6,16 @@ use Rattle.lines.specs.Lines.{texts}
 use Rattle.running.proofs.Runs.{run-met}
 use Rattle.engine.proofs.steps.Statement.{statement}
 use Rattle.engine.proofs.steps.Tie as tie
-use Rattle.engine.proofs.steps.Reads as reads
-use Rattle.engine.proofs.steps.Lts as lts
-use Rattle.machine.proofs.go.Reads as go-reads
 
--- src/lib.rt:39:9
 go-requires : tie.Need-go-requires
 go-requires c κs = search needs
 
--- src/lib.rt:16:1
 same-length : tie.Need-same-length
 same-length c = search needs
 
--- src/lib.rt:16:1
 same-length-2 : tie.Need-same-length-2
 same-length-2 c = search needs
 
--- src/lib.rt:16:1
 returns : tie.Need-returns
 returns c =
     let s = c .before .before .before .before .before .before .before .before .before .before .before .before .before .before .before .before .before in

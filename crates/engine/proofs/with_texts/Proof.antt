@@ -3,24 +3,16 @@ use Rattle.engine.proofs.Begins.{too-short}
 use borrow.Author.Needs.{needs}
 use Rattle.engine.proofs.with_texts.Statement.{statement}
 use Rattle.engine.proofs.with_texts.Tie as tie
-use Rattle.engine.proofs.with_texts.Reads as reads
-use Rattle.engine.proofs.with_texts.Lts as lts
-use Rattle.engine.proofs.from_facts.Reads as from-facts-reads
-use Rattle.layout.proofs.lay.Reads as lay-reads
 
--- src/lib.rt:257:31
 cast-lay : tie.Need-cast-lay
 cast-lay c = search needs
 
--- src/lib.rt:257:51
 slice-aggregate-lay : tie.Need-slice-aggregate-lay
 slice-aggregate-lay c = search needs
 
--- src/lib.rt:257:9
 lay-requires : tie.Need-lay-requires
 lay-requires c κs = search needs
 
--- src/lib.rt:259:9
 returns : tie.Need-returns
 returns c =
     let s = c .before .before .before .before .before .before .before .before .before .before .before .before in
@@ -28,23 +20,18 @@ returns c =
     let l = c .before .before .before .lay .ensures (now (s .args .facts)) (now (s .args .query)) w (g .relations-are) (g .size) in
     too-short (now (s .args .facts)) (now (s .args .query)) (now (s .args .relations)) (now (s .args .places)) (now (s .args .low)) w g _ _ _ (now (s .args .store)) (now (s .args .output)) (s .args .budget) l (c .if1 .taken)
 
--- src/lib.rt:267:9
 slice-aggregate-from-facts : tie.Need-slice-aggregate-from-facts
 slice-aggregate-from-facts c = search needs
 
--- src/lib.rt:261:5
 from-facts-requires : tie.Need-from-facts-requires
 from-facts-requires c κs = search needs
 
--- src/lib.rt:243:1
 same-length : tie.Need-same-length
 same-length c = search needs
 
--- src/lib.rt:243:1
 same-length-2 : tie.Need-same-length-2
 same-length-2 c = search needs
 
--- src/lib.rt:243:1
 returns-2 : tie.Need-returns-2
 returns-2 c =
     let s = c .before .before .before .before .before .before .before .before .before .before .before .before .before .before .before .before .before .before .before .before in

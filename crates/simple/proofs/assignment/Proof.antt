@@ -1,6 +1,6 @@
 use native.Mathlib.Omega.{arith}
 use mathlib.Core.Path.{sym, _∙_}
-use Prim.Native.Nat.{_+_, _-_}
+use Prim.Native.Nat.{_+_}
 use lib.ListN.{length-set}
 use Rattle.simple.proofs.AssignLaws.{assign-open, assign-unlisted, assign-unended, assign-alone, assign-ends, finish-room}
 use Rattle.terms.proofs.AtomLaws.{listed-of}

@@ -1,6 +1,6 @@
 use native.Mathlib.Omega.{arith}
 use mathlib.Core.Path.{refl, sym, _∙_}
-use Prim.Native.Nat.{_+_, _-_}
+use Prim.Native.Nat.{_+_}
 use Rattle.terms.proofs.AtomLaws.{before-open, before-first, before-comma, before-second, before-closed, before-reads}
 use Rattle.terms.proofs.TokenLaws.{kind-within}
 use borrow.Author.Needs.{needs}

@@ -1,6 +1,6 @@
 use native.Mathlib.Omega.{arith}
 use mathlib.Core.Path.{refl, sym, _∙_}
-use Prim.Native.Nat.{_+_, _-_}
+use Prim.Native.Nat.{_+_}
 use Rattle.terms.proofs.AtomLaws.{between-alone, between-second, between-reads}
 use Rattle.terms.proofs.LeafLaws.{leaf-within}
 use borrow.Author.Needs.{needs}

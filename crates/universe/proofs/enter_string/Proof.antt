@@ -1,57 +1,40 @@
-use mathlib.Core.Path.{sym, ap, _∙_}
+use mathlib.Core.Path.{sym, _∙_}
 use denote.Ref.{now}
 use Rattle.universe.proofs.Entering.{enters-none, enters-full, enters-one}
 use borrow.Author.Needs.{needs}
 use Rattle.universe.proofs.enter_string.Statement.{statement}
 use Rattle.universe.proofs.enter_string.Tie as tie
-use Rattle.universe.proofs.enter_string.Reads as reads
-use Rattle.universe.proofs.enter_string.Lts as lts
-use Rattle.lexer.proofs.place.Reads as place-reads
-use Rattle.parts.proofs.enter_part.Reads as enter-part-reads
-use Rattle.universe.proofs.string_part.Reads as string-part-reads
-use Rattle.universe.proofs.token_of.Reads as token-of-reads
 
--- src/lib.rt:49:9
 returns : tie.Need-returns
 returns c = let s = c .before .before .before .before .before in enters-none (now (s .args .facts)) (now (s .args .query)) (now (s .args .tokens)) (s .args .w) (now (s .args .places)) (s .args .n) (c .if1 .taken) (s .pre)
 
--- src/lib.rt:51:9
 token-of-requires : tie.Need-token-of-requires
 token-of-requires c κs = search needs
 
--- src/lib.rt:52:47
 string-part-requires : tie.Need-string-part-requires
 string-part-requires c κs = search needs
 
--- src/lib.rt:52:11
 enter-part-requires : tie.Need-enter-part-requires
 enter-part-requires c κs = search needs
 
--- src/lib.rt:53:40
 enum-told : tie.Need-enum-told
 enum-told c = search needs
 
--- src/lib.rt:53:40
 place-requires : tie.Need-place-requires
 place-requires c κs = search needs
 
--- src/lib.rt:54:24
 enum-known-m : tie.Need-enum-known-m
 enum-known-m c = search needs
 
--- src/lib.rt:37:1
 same-length : tie.Need-same-length
 same-length c = search needs
 
--- src/lib.rt:37:1
 returns-2 : tie.Need-returns-2
 returns-2 c = let s = c .before .before .before .before .before .before .before .before .before .before .before .before .before .before in let t = c .before .before .before .before .before .before .before .before .token-of in rw (c .place .ensures) (enters-full (now (s .args .facts)) (now (s .args .query)) (now (s .args .tokens)) (s .args .w) (now (s .args .places)) (s .args .n) (c .before .before .before .before .before .before .before .before .before .if1 .left) (t .result) (t .ensures) (sym (c .before .enum-told .given .1) ∙ c .before .before .before .before .before .enter-part .ensures .0 ∙ rw (c .before .before .before .before .before .before .string-part .ensures)))
 
--- src/lib.rt:37:1
 same-length-2 : tie.Need-same-length-2
 same-length-2 c = search needs
 
--- src/lib.rt:37:1
 returns-3 : tie.Need-returns-3
 returns-3 c = let s = c .before .before .before .before .before .before .before .before .before .before .before .before .before .before in let t = c .before .before .before .before .before .before .before .before .token-of in enters-one (now (s .args .facts)) (now (s .args .query)) (now (s .args .tokens)) (s .args .w) (now (s .args .places)) (s .args .n) (c .before .before .before .before .before .before .before .before .before .if1 .left) (t .result) (t .ensures) _ _ (c .before .before .before .before .before .enter-part .ensures .1 ∙ rw (c .before .before .before .before .before .before .string-part .ensures)) (sym (c .before .m .given .1) ∙ c .before .before .before .before .before .enter-part .ensures .0 ∙ rw (c .before .before .before .before .before .before .string-part .ensures))
 

@@ -1,5 +1,5 @@
 use Prim.Native.Nat.{_≤_, _-_}
-use mathlib.Core.Path.{_≡_, refl, sym, ap, _∙_}
+use mathlib.Core.Path.{_≡_, refl}
 use native.Mathlib.Omega.{arith}
 use borrow.Author.Needs.{needs}
 use denote.Ref.{now}
@@ -8,9 +8,6 @@ use Rattle.parts.proofs.HeldLaws.{held-length}
 use Rattle.universe.proofs.Entering.{Entering, entering-start, entering-next, entering-full, entering-end}
 use Rattle.universe.proofs.enter_strings.Statement.{statement}
 use Rattle.universe.proofs.enter_strings.Tie as tie
-use Rattle.universe.proofs.enter_strings.Reads as reads
-use Rattle.universe.proofs.enter_strings.Lts as lts
-use Rattle.universe.proofs.enter_string.Reads as enter-string-reads
 
 abbrev Inv-loop : tie.InvT-loop
 Inv-loop facts query tokens words places₀ n count₀ i₀ places count i = (length places ≡ length places₀) × (i ≤ length words) × Entering facts query tokens words places₀ n places count i
@@ -18,55 +15,42 @@ Inv-loop facts query tokens words places₀ n count₀ i₀ places count i = (le
 abbrev μ-loop : tie.MeasureT-loop
 μ-loop facts query tokens words places₀ n count₀ i₀ places count i = length words - i
 
--- src/lib.rt:72:5
 loop-holds : tie.Need-loop-holds Inv-loop μ-loop
 loop-holds c = let s = c .before .before .before .before .before in (refl, omega arith, entering-start (now (s .args .facts)) (now (s .args .query)) (now (s .args .tokens)) (now (s .args .words)) (now (s .args .places)) (s .args .n) (omega (arith, s .pre)))
 
--- src/lib.rt:73:65
 mul-enter-string : tie.Need-mul-enter-string Inv-loop μ-loop
 mul-enter-string c = search needs
 
--- src/lib.rt:73:65
 shared-slice-read-enter-string : tie.Need-shared-slice-read-enter-string Inv-loop μ-loop
 shared-slice-read-enter-string c = search needs
 
--- src/lib.rt:73:15
 enter-string-requires : tie.Need-enter-string-requires Inv-loop μ-loop
 enter-string-requires c κs = omega (arith, c .before .before .before .loop .inv .2 .held .room, c .before .before .before .loop .inv .0)
 
--- src/lib.rt:74:27
 enum-known-at : tie.Need-enum-known-at Inv-loop μ-loop
 enum-known-at c = search needs
 
--- src/lib.rt:74:34
 same-length : tie.Need-same-length Inv-loop μ-loop
 same-length c = search needs
 
--- src/lib.rt:74:34
 returns : tie.Need-returns Inv-loop μ-loop
 returns c = let s = c .before .before .before .before .before .before .before .before .before .before .before .before .before .before .before in let l = c .before .before .before .before .before .before .before .before .before .loop in entering-full (now (s .args .facts)) (now (s .args .query)) (now (s .args .tokens)) (now (s .args .words)) (now (s .args .places)) (s .args .n) (l .places) (l .count) (l .i) (l .inv .2) (c .before .before .before .before .before .before .before .before .loop-test .taken) _ _ _ (c .before .at .given .1) (c .before .before .before .before .before .enter-string .ensures) (s .pre .1)
 
--- src/lib.rt:75:28
 enum-known-m : tie.Need-enum-known-m Inv-loop μ-loop
 enum-known-m c = search needs
 
--- src/lib.rt:79:9
 add-i : tie.Need-add-i Inv-loop μ-loop
 add-i c = search needs
 
--- src/lib.rt:72:5
 loop-less : tie.Need-loop-less Inv-loop μ-loop
 loop-less c = search needs
 
--- src/lib.rt:72:5
 loop-again : tie.Need-loop-again Inv-loop μ-loop
 loop-again c = let s = c .before .before .before .before .before .before .before .before .before .before .before .before .before .before .before in let l = c .before .before .before .before .before .before .before .before .before .loop in let g = entering-next (now (s .args .facts)) (now (s .args .query)) (now (s .args .tokens)) (now (s .args .words)) (now (s .args .places)) (s .args .n) (l .places) (l .count) (l .i) (l .inv .2) (c .before .before .before .before .before .before .before .before .loop-test .taken) _ _ _ (c .before .m .given .1) (c .before .before .before .before .before .enter-string .ensures) in (held-length (g .held), omega arith, g)
 
--- src/lib.rt:59:1
 same-length-2 : tie.Need-same-length-2 Inv-loop μ-loop
 same-length-2 c = search needs
 
--- src/lib.rt:59:1
 returns-2 : tie.Need-returns-2 Inv-loop μ-loop
 returns-2 c = let s = c .before .before .before .before .before .before .before in let l = c .before .loop in entering-end (now (s .args .facts)) (now (s .args .query)) (now (s .args .tokens)) (now (s .args .words)) (now (s .args .places)) (s .args .n) (l .places) (l .count) (l .i) (l .inv .2) (c .loop-test .left) (s .pre .1)
 
