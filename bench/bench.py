@@ -1,4 +1,4 @@
-"""Times of four queries over 64 elements, 220 pairs and 20 held, in relcalc and beside it in SQLite, SWI-Prolog, clingo and C by hand.
+"""Times of six queries over 64 elements, 220 pairs and 20 held, in relcalc and beside it in SQLite, SWI-Prolog, clingo and C by hand.
 
 Every system must print the same rows. bench/run builds the programs that this starts."""
 import os
@@ -38,9 +38,25 @@ QUERIES = {
         "(SELECT 1 FROM pairs p WHERE p.a = elements.a AND p.b NOT IN (SELECT a FROM held)) ORDER BY 1",
         ("X", "element(X), not strays(X)"),
     ),
+    # 64^4 assignments, few of which any atom leaves: only a filter of the values makes it fast
+    "squares": (
+        "PRINT EX(z, On(w,x) & On(x,y) & On(y,z) & On(z,w));",
+        "SELECT DISTINCT p.a, q.a, s.a FROM pairs p JOIN pairs q ON p.b = q.a JOIN pairs s ON q.b = s.a "
+        "JOIN pairs t ON s.b = t.a AND t.b = p.a ORDER BY 1, 2, 3",
+        ("W-X-Y", "on(W,X), on(X,Y), on(Y,Z), on(Z,W)"),
+    ),
+    # two elements are alike also where neither is on y, so no atom rules out a pair: no filter helps, each of them has to be looked at
+    "alike": (
+        "PRINT FA(y, On(x,y) <-> On(z,y));",
+        "SELECT e.a, f.a FROM elements e, elements f WHERE NOT EXISTS "
+        "(SELECT 1 FROM pairs p WHERE p.a = e.a AND NOT EXISTS (SELECT 1 FROM pairs q WHERE q.a = f.a AND q.b = p.b)) AND NOT EXISTS "
+        "(SELECT 1 FROM pairs p WHERE p.a = f.a AND NOT EXISTS (SELECT 1 FROM pairs q WHERE q.a = e.a AND q.b = p.b)) ORDER BY 1, 2",
+        ("X-Z", "element(X), element(Z), not apart(X,Z)"),
+    ),
 }
 NOT = "\\+"  # as SWI-Prolog writes it
 DEPTHS = [(64, range(1, 5)), (8, range(1, 8))]
+LIMIT = 2  # seconds: nested quantifiers that take longer are not measured
 
 
 def file(name, text):
@@ -55,9 +71,9 @@ def facts(elements, pairs, held):
     return "\n".join(lines) + "\n"
 
 
-def program(*words):
+def program(*words, seconds=None):
     """The times in a program's first line, and the rows after it."""
-    first, _, page = subprocess.run(words, check=True, capture_output=True, text=True).stdout.partition("\n")
+    first, _, page = subprocess.run(words, check=True, capture_output=True, text=True, timeout=seconds).stdout.partition("\n")
     return [float(t) for t in first.split()], sorted(page.splitlines())
 
 
@@ -93,7 +109,13 @@ def sqlite(sql):
 
 def clauses(negation):
     lines = [f"element({e})." for e in ELEMENTS] + [f"on({a},{b})." for a, b in PAIRS] + [f"held({a})." for a in HELD]
-    rules = ["dep(X,Y) :- on(X,Y).", "dep(X,Z) :- dep(X,Y), on(Y,Z).", f"strays(X) :- on(X,Y), {negation} held(Y)."]
+    rules = [
+        "dep(X,Y) :- on(X,Y).",
+        "dep(X,Z) :- dep(X,Y), on(Y,Z).",
+        f"strays(X) :- on(X,Y), {negation} held(Y).",
+        f"apart(X,Z) :- on(X,Y), element(Z), {negation} on(Z,Y).",
+        f"apart(X,Z) :- on(Z,Y), element(X), {negation} on(X,Y).",
+    ]
     return "\n".join(lines + rules) + "\n"
 
 
@@ -124,6 +146,10 @@ def shown(times, i=0):
     return "not installed" if times is None else f"{times[i]:,.1f}"
 
 
+def ratio(times, i, by):
+    return "not installed" if times is None else f"{times[i] / by:,.2f}"
+
+
 def table(head, rows):
     rows = [head, ["---"] * len(head)] + rows
     for row in rows:
@@ -132,38 +158,63 @@ def table(head, rows):
 
 def compared():
     path = file("facts.rsf", facts(ELEMENTS, PAIRS, HELD))
-    rows = []
+    times, ratios = [], []
     for name, (rml, sql, logic) in QUERIES.items():
-        relcalc, want = program(os.path.join(to, "relcalc"), path, file("query.rml", rml))
+        (check, run), want = program(os.path.join(to, "relcalc"), path, file("query.rml", rml))
         answers = {"SQLite": sqlite(sql), "C": program(os.path.join(to, "bits"), path, name)}
         for system, command, call in (("SWI-Prolog", "swipl", prolog), ("clingo", "clingo", clingo)):
             answers[system] = call(*logic) if shutil.which(command) else (None, want)
         for system, (_, got) in answers.items():
             if got != want:
                 sys.exit(f"{name}: {system} and relcalc print different rows")
-        sqlite_times, bits = answers["SQLite"][0], answers["C"][0]
-        rows.append(
-            [name, str(len(want)), shown(relcalc, 1), shown(relcalc), shown(sqlite_times), shown(sqlite_times, 1)]
-            + [shown(answers["SWI-Prolog"][0]), shown(answers["clingo"][0]), shown(bits)]
-            + [f"{sqlite_times[0] / relcalc[1]:.2f}", f"{sqlite_times[1] / relcalc[1]:.2f}", f"{relcalc[1] / bits[0]:,.0f}"]
+        database_times, bits, swipl, asp = (answers[system][0] for system in ("SQLite", "C", "SWI-Prolog", "clingo"))
+        own = run - check
+        times.append(
+            [name, str(len(want))]
+            + [shown([run]), shown([check]), shown([own]), shown(database_times), shown(database_times, 1), shown(swipl), shown(asp), shown(bits)]
         )
+        ratios.append(
+            [name, ratio(database_times, 0, run), ratio(asp, 0, run), ratio(database_times, 1, own), ratio(swipl, 0, own), f"{run / bits[0]:,.0f}"]
+        )
+    table("query,rows,relcalc,of it check,run less check,SQLite with load,SQLite query,SWI-Prolog,clingo,C on bits".split(","), times)
+    print()
     table(
-        "query,rows,relcalc,of it check,SQLite with load,SQLite query,SWI-Prolog,clingo,C on bits,SQLite with load / relcalc,"
-        "SQLite query / relcalc,relcalc / C".split(","),
-        rows,
+        "query,SQLite with load / relcalc,clingo / relcalc,SQLite query / run less check,SWI-Prolog / run less check,relcalc / C".split(","),
+        ratios,
     )
 
 
+def nest(attributes, inside):
+    return "PRINT " + "".join(f"EX({x}," for x in attributes) + inside + ")" * len(attributes) + ";"
+
+
+def within_limit(path, query):
+    """The time of a run that ends within the limit. The program makes at least three."""
+    try:
+        (_, run), _ = program(os.path.join(to, "relcalc"), path, file("query.rml", query), seconds=3 * LIMIT + 1)
+    except subprocess.TimeoutExpired:
+        return None
+    return run if run < LIMIT * 1e6 else None
+
+
+def visits(run, count):
+    return ["not measured"] * 2 if run is None else [f"{run:,.1f}", f"{run * 1000 / count:,.1f}"]
+
+
 def nested():
+    """No element is on itself here, so neither inside ever decides."""
     rows = []
     for size, depths in DEPTHS:
         path = file("few.rsf", facts(ELEMENTS[:size], [p for p in PAIRS if max(p) < f"e{size:02d}"] or [("e00", "e01")], []))
         for depth in depths:
             attributes = ("abcd" * 8)[:depth]
-            query = "PRINT " + "".join(f"EX({x}," for x in attributes) + f"On({attributes[-1]},{attributes[-1]})" + ")" * depth + ";"
-            times, _ = program(os.path.join(to, "relcalc"), path, file("query.rml", query))
-            rows.append([str(size), str(depth), f"{size**depth:,}", shown(times, 1), f"{times[1] * 1000 / size**depth:,.1f}"])
-    table(["elements", "depth", "innermost visits", "relcalc", "nanoseconds a visit"], rows)
+            last = f"On({attributes[-1]},{attributes[-1]})"
+            every = " | ".join(f"On({x},{x})" for x in sorted(set(attributes)))
+            runs = [within_limit(path, nest(attributes, inside)) for inside in (last, every)]
+            rows.append([str(size), str(depth), f"{size**depth:,}"] + [cell for run in runs for cell in visits(run, size**depth)])
+    table(
+        ["elements", "depth", "innermost visits", "of the last alone", "nanoseconds a visit", "of every attribute", "nanoseconds a visit"], rows
+    )
 
 
 print(f"SQLite {sqlite3.sqlite_version}, Python {sys.version.split()[0]}; shortest times in microseconds\n")
