@@ -12,7 +12,7 @@ pub mod run;
 pub mod tokens;
 
 use facts::{Element, Facts};
-use meaning::{Set, World};
+use meaning::{Row, Set, World};
 use names::Names;
 use parse::Stmt;
 use run::{Ending, Run};
@@ -90,8 +90,8 @@ impl Accepted {
         let u = self.universe.len();
         let mut words = vec![0; table_words(u, arity)];
         for t in tuples {
-            let (last, before) = t.split_last().map_or((0, &[][..]), |(l, b)| (*l, b));
-            words[before.iter().fold(0, |w, a| w * u + a)] |= 1u64 << last;
+            let last = if arity == 0 { 0 } else { t.at(arity - 1) };
+            words[t.iter().take(arity.saturating_sub(1)).fold(0, |w, a| w * u + a)] |= 1u64 << last;
         }
         words
     }
@@ -159,7 +159,7 @@ pub fn chain(facts: &[u8], name: &[u8], first: &[u8], second: &[u8], room: usize
     }
     let of_name = f.facts.iter().filter(|g| g.name == name);
     let pairs: Set = of_name.map(|g| g.elements.iter().map(|e| number(&e.value).unwrap()).collect()).collect();
-    if !meaning::reach(&pairs, universe.len()).contains(&vec![a, b]) {
+    if !meaning::reach(&pairs, universe.len()).contains(&Row::from_iter([a, b])) {
         return Err((17, 0));
     }
     Ok((pairs, a, b))
@@ -172,6 +172,6 @@ pub fn is_chain(pairs: &Set, a: usize, b: usize, c: &[usize]) -> bool {
     c.len() >= 2
         && c[0] == a
         && c[c.len() - 1] == b
-        && c.windows(2).all(|p| pairs.contains(&p.to_vec()))
+        && c.windows(2).all(|p| pairs.contains(&p.iter().copied().collect()))
         && (repeats == 0 || (repeats == 1 && a == b))
 }

@@ -1,5 +1,5 @@
 //! Statements, big-step: the run under a budget and a buffer.
-use crate::meaning::{all_rows, Result as Rows, Set, World};
+use crate::meaning::{Result as Rows, Row, Set, World};
 use crate::parse::{Expr, Item, Stmt, Term};
 use std::collections::BTreeSet;
 
@@ -35,33 +35,22 @@ impl Run<'_> {
 
     fn assign(&mut self, name: &[u8], left: &[Term], e: &Expr) {
         let given = self.world.eval(e);
-        let old = self.world.tables[name].clone();
-        let new: Set = all_rows(self.world.universe.len(), left.len())
-            .into_iter()
-            .filter(|t| self.gives(&given, left, t) || (self.differs(left, t) && old.contains(t)))
-            .collect();
+        let old = &self.world.tables[name];
+        let kept = old.iter().copied().filter(|t| self.differs(left, t));
+        let new: Set = given.rows.iter().map(|row| self.tuple(&given, left, row)).chain(kept).collect();
         self.world.tables.insert(name.to_vec(), new);
     }
-    /// The tuple is what the left-hand terms stand for under some row of the result.
-    fn gives(&self, given: &Rows, left: &[Term], t: &[usize]) -> bool {
-        let mut row = vec![None; given.columns.len()];
-        for (p, &a) in left.iter().zip(t) {
-            match p {
-                Term::Quoted(s) if self.world.universe[a] != s.text => return false,
-                Term::Name(x) => {
-                    let i = given.columns.iter().position(|c| *c == x.text).unwrap();
-                    if row[i].is_some_and(|b| b != a) {
-                        return false;
-                    }
-                    row[i] = Some(a);
-                }
-                _ => {}
-            }
-        }
-        given.rows.contains(&row.into_iter().map(Option::unwrap).collect::<Vec<_>>())
+    /// What the left-hand terms stand for under a row of the result.
+    fn tuple(&self, given: &Rows, left: &[Term], row: &Row) -> Row {
+        let element = |p: &Term| match p {
+            Term::Name(x) => row.at(given.columns.iter().position(|c| *c == x.text).unwrap()),
+            Term::Quoted(s) => self.world.universe.iter().position(|t| *t == s.text).unwrap(),
+            Term::Any => unreachable!(),
+        };
+        left.iter().map(element).collect()
     }
-    fn differs(&self, left: &[Term], t: &[usize]) -> bool {
-        left.iter().zip(t).any(|(p, &a)| matches!(p, Term::Quoted(s) if self.world.universe[a] != s.text))
+    fn differs(&self, left: &[Term], t: &Row) -> bool {
+        left.iter().zip(t.iter()).any(|(p, a)| matches!(p, Term::Quoted(s) if self.world.universe[a] != s.text))
     }
 
     fn bare(&self, p: &Term) -> Vec<u8> {
@@ -84,7 +73,7 @@ impl Run<'_> {
             Item::Word(p) => page.extend(self.bare(p)),
             Item::Rows(label, e) => {
                 for row in self.world.eval(e).rows {
-                    let parts: Vec<Vec<u8>> = label.iter().map(|p| self.bare(p)).chain(row.iter().map(|&a| self.shown(a))).collect();
+                    let parts: Vec<Vec<u8>> = label.iter().map(|p| self.bare(p)).chain(row.iter().map(|a| self.shown(a))).collect();
                     page.extend(parts.join(&b' '));
                     page.push(10);
                 }
@@ -128,7 +117,7 @@ impl Run<'_> {
                 for row in self.world.eval(e).rows {
                     self.test_budget()?;
                     self.steps += 1;
-                    self.world.variables.insert(v.text.clone(), row[0]);
+                    self.world.variables.insert(v.text.clone(), row.at(0));
                     self.all(body)?;
                 }
             }
