@@ -1,6 +1,6 @@
 //! Texts for comparisons: facts and queries that are mostly accepted, the same with damage, texts with several faults, and texts at each
 //! limit of document 01.
-use crate::accept;
+use crate::{accept, shapes};
 
 /// A small generator of pseudo-random numbers: the same seed gives the same texts on every machine.
 pub struct Random(u64);
@@ -494,10 +494,13 @@ fn fewer_facts(facts: &mut Vec<u8>, query: &[u8]) {
     }
 }
 
-/// The comparison of this number: first each limit below, at and above it, then limits and random texts, some damaged.
+/// The comparison of this number: first each limit below, at and above it, then limits, shapes and random texts, some damaged.
 pub fn texts(number: u64) -> Texts {
     let r = &mut Random::new(number);
     let limits = 3 * LIMITS as u64;
+    if number >= limits && r.one_in(3) {
+        return shaped(r);
+    }
     let (mut facts, mut query) = match number {
         k if k < limits => limit((k / 3) as usize, (k % 3) as usize),
         _ if r.one_in(12) => limit(r.below(LIMITS), r.below(3)),
@@ -519,4 +522,18 @@ pub fn texts(number: u64) -> Texts {
     let room = if number >= limits && r.one_in(3) { r.below(60) } else { 4000 };
     let chains = chains(r, &facts);
     Texts { facts, query, budget, spare, room, chains }
+}
+
+/// Shapes whose steps are short enough.
+fn shaped(r: &mut Random) -> Texts {
+    let (facts, query, nodes) = loop {
+        let (facts, query) = shapes::texts(r);
+        let nodes = nodes(&facts, &query);
+        if nodes <= 4 * NODES {
+            break (facts, query, nodes);
+        }
+    };
+    let budget = (*r.pick(&[2, 5, 10, 50])).min(8 * NODES / nodes) as u32;
+    let room = *r.pick(&[0, 10, 100, 1000, 40_000, 40_000]);
+    Texts { facts, query, budget, spare: r.below(4) as i64, room, chains: Vec::new() }
 }

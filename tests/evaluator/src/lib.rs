@@ -9,6 +9,7 @@ pub mod names;
 pub mod nodes;
 pub mod parse;
 pub mod run;
+pub mod shapes;
 pub mod tokens;
 
 use facts::{Element, Facts};

@@ -1,0 +1,288 @@
+//! Accepted texts in which each form of document 01's expressions is met often, over universes of 0 to 64 elements: quantifiers that hide
+//! or bind nothing, "_", strings, loop variables and repeated attributes in each place, closures and relation comparisons under
+//! quantifiers, joins of several atoms, and every kind of left side and printed column.
+use crate::generate::Random;
+
+const RELATIONS: [(&str, usize); 8] = [("On", 2), ("Held", 1), ("P", 0), ("T", 3), ("Dep", 2), ("All", 1), ("Triple", 3), ("Q", 2)];
+const ATTRIBUTES: [&str; 4] = ["x", "y", "z", "w"];
+const VARIABLES: [&str; 2] = ["c", "v"];
+const SIGNS: [&str; 6] = ["=", "!=", "<", "<=", ">", ">="];
+/// Universes: the smallest and the largest often, since a word has 64 bits.
+const SIZES: [usize; 16] = [0, 1, 1, 2, 2, 3, 5, 8, 16, 33, 62, 63, 63, 64, 64, 64];
+/// More rows than this a result should not have, most times: a universe of 64 elements takes two attributes, one of 16 three.
+const ROWS: usize = 4096;
+
+/// An expression and its free attributes, in order of first free occurrence.
+struct Expression {
+    text: String,
+    free: Vec<&'static str>,
+}
+
+fn joined(mut a: Vec<&'static str>, b: &[&'static str]) -> Vec<&'static str> {
+    for x in b {
+        if !a.contains(x) {
+            a.push(x);
+        }
+    }
+    a
+}
+
+fn shuffle<T>(r: &mut Random, all: &mut [T]) {
+    for i in (1..all.len()).rev() {
+        let j = r.below(i + 1);
+        all.swap(i, j);
+    }
+}
+
+/// Elements in one of three ways: of one length, each a prefix of the next, or with blanks and signs.
+fn elements(r: &mut Random, size: usize) -> Vec<String> {
+    match r.below(6) {
+        0 if size <= 32 => (0..size).map(|i| "a".repeat(i + 1)).collect(),
+        1 | 2 => (0..size).map(|i| ["", " ", "~", "A b", "#", "."].get(i).map_or(format!("{i}"), |s| s.to_string())).collect(),
+        _ => (0..size).map(|i| format!("e{i:02}")).collect(),
+    }
+}
+
+struct Writer<'a> {
+    r: &'a mut Random,
+    /// those of the facts, then one or two that only left sides have
+    strings: Vec<String>,
+    given: usize,
+    attributes: usize,
+    open: Vec<&'static str>,
+    closures: usize,
+}
+
+impl Writer<'_> {
+    fn string(&mut self, left: bool) -> String {
+        let all = &self.strings;
+        let s = match self.r.below(8) {
+            // outside the universe, unless it is on some left side
+            0 if !left => "absent",
+            1 if !left || all.len() <= 64 => &all[self.r.below(all.len())],
+            2 if self.given > 0 => &all[self.given - 1],
+            _ => &all[self.r.below(self.given.max(1))],
+        };
+        format!("\"{s}\"")
+    }
+    fn attribute(&mut self) -> &'static str {
+        ATTRIBUTES[self.r.below(self.attributes)]
+    }
+    fn term(&mut self) -> (String, Option<&'static str>) {
+        match self.r.below(12) {
+            0 | 1 => ("_".into(), None),
+            2 => (self.string(false), None),
+            3 | 4 if !self.open.is_empty() => (self.r.pick(&self.open).to_string(), None),
+            _ => {
+                let x = self.attribute();
+                (x.into(), Some(x))
+            }
+        }
+    }
+    fn terms(&mut self, n: usize) -> (Vec<String>, Vec<&'static str>) {
+        let (mut texts, mut free) = (Vec::new(), Vec::new());
+        let same = if self.r.one_in(5) { Some(self.attribute()) } else { None };
+        for _ in 0..n {
+            let (text, x) = match (same, self.term()) {
+                (Some(x), (_, Some(_))) => (x.into(), Some(x)),
+                (_, t) => t,
+            };
+            texts.push(text);
+            free = joined(free, x.as_slice());
+        }
+        (texts, free)
+    }
+    fn atom(&mut self) -> Expression {
+        let (name, arity) = *self.r.pick(&RELATIONS);
+        let (terms, free) = self.terms(arity);
+        Expression { text: format!("{name}({})", terms.join(",")), free }
+    }
+    fn sign(&mut self) -> Expression {
+        let s = *self.r.pick(&SIGNS);
+        let (terms, free) = self.terms(2);
+        let text = if self.r.one_in(3) { format!("{s}({})", terms.join(",")) } else { format!("{}{s}{}", terms[0], terms[1]) };
+        Expression { text, free }
+    }
+    fn leaf(&mut self) -> Expression {
+        match self.r.below(10) {
+            0 | 1 => self.sign(),
+            2 => {
+                let name = *self.r.pick(&["TRUE", "FALSE"]);
+                let n = self.r.below(4);
+                let (terms, free) = self.terms(n);
+                Expression { text: format!("{name}({})", terms.join(",")), free }
+            }
+            _ => self.atom(),
+        }
+    }
+    /// Atoms joined by one connective without brackets.
+    fn join(&mut self) -> Expression {
+        let o = *self.r.pick(&[" & ", " & ", " & ", " | "]);
+        let mut all = self.leaf();
+        for _ in 0..1 + self.r.below(3) {
+            let not = *self.r.pick(&["", "", "", "!"]);
+            let next = self.leaf();
+            all = Expression { text: format!("{}{o}{not}{}", all.text, next.text), free: joined(all.free, &next.free) };
+        }
+        Expression { text: format!("({})", all.text), free: all.free }
+    }
+    fn quantified(&mut self, x: &'static str, e: Expression) -> Expression {
+        let q = *self.r.pick(&["EX", "FA"]);
+        Expression { text: format!("{q}({x}, {})", e.text), free: e.free.into_iter().filter(|y| *y != x).collect() }
+    }
+    /// Over one or two attributes, inside or not, bound already or not.
+    fn quantifier(&mut self, d: usize) -> Expression {
+        let inside = self.expression(d);
+        let (x, y) = (self.attribute(), self.attribute());
+        if self.r.one_in(4) {
+            let q = *self.r.pick(&["EX", "FA"]);
+            return Expression { text: format!("{q}({x},{y}, {})", inside.text), free: inside.free.into_iter().filter(|z| *z != x && *z != y).collect() };
+        }
+        self.quantified(x, inside)
+    }
+    /// With so many free attributes as asked for: others are bound, missing ones added.
+    fn with_free(&mut self, mut e: Expression, least: usize, most: usize) -> Expression {
+        while e.free.len() > most {
+            let x = e.free[self.r.below(e.free.len())];
+            e = self.quantified(x, e);
+        }
+        while e.free.len() < least {
+            let x = ATTRIBUTES[..self.attributes.max(least)].iter().find(|x| !e.free.contains(x)).unwrap();
+            let (a, o) = *self.r.pick(&[("Held", "|"), ("All", "&"), ("All", "<->"), ("TRUE", "&")]);
+            e = Expression { text: format!("({} {o} {a}({x}))", e.text), free: joined(e.free, &[*x]) };
+        }
+        e
+    }
+    fn closure(&mut self, d: usize) -> Expression {
+        self.closures += 1;
+        let inside = self.expression(d);
+        let inside = self.with_free(inside, 2, 2);
+        let name = *self.r.pick(&["TC", "TCFAST"]);
+        Expression { text: format!("{name}({})", inside.text), free: inside.free }
+    }
+    fn expression(&mut self, d: usize) -> Expression {
+        match if d == 0 { 0 } else { self.r.below(14) } {
+            0 | 1 => self.leaf(),
+            2..=4 => self.join(),
+            5..=7 => self.quantifier(d - 1),
+            8 if self.attributes > 1 && self.closures < 8 => self.closure(d - 1),
+            9 => {
+                let (s, a, b) = (*self.r.pick(&SIGNS), self.expression(d - 1), self.expression(d - 1));
+                Expression { text: format!("({} {s} {})", a.text, b.text), free: Vec::new() }
+            }
+            10 => {
+                let e = self.expression(d - 1);
+                Expression { text: format!("!{}", e.text), free: e.free }
+            }
+            _ => {
+                let o = *self.r.pick(&["&", "&", "|", "->", "<->"]);
+                let (a, b) = (self.expression(d - 1), self.expression(d - 1));
+                Expression { text: format!("({} {o} {})", a.text, b.text), free: joined(a.free, &b.free) }
+            }
+        }
+    }
+    fn fresh(&mut self, least: usize, most: usize) -> Expression {
+        let d = 1 + self.r.below(4);
+        let e = self.expression(d);
+        self.with_free(e, least, most)
+    }
+    /// The free attributes in any order, some again, and strings.
+    fn assignment(&mut self) -> String {
+        let e = self.fresh(0, 3);
+        let fitting: Vec<(&str, usize)> = RELATIONS.iter().copied().filter(|r| r.1 >= e.free.len()).collect();
+        let (name, arity) = *self.r.pick(&fitting);
+        let mut left: Vec<String> = e.free.iter().map(|x| x.to_string()).collect();
+        while left.len() < arity {
+            let again = if e.free.is_empty() || self.r.one_in(2) { self.string(true) } else { self.r.pick(&e.free).to_string() };
+            left.push(again);
+        }
+        shuffle(self.r, &mut left);
+        let left = format!("{name}({})", left.join(","));
+        if self.r.one_in(12) { format!("{left};\n") } else { format!("{left} := {};\n", e.text) }
+    }
+    fn word(&mut self) -> String {
+        if self.open.is_empty() || self.r.one_in(2) { self.string(false) } else { self.r.pick(&self.open).to_string() }
+    }
+    fn item(&mut self) -> String {
+        match self.r.below(10) {
+            0 => "ENDL".into(),
+            1 => self.word(),
+            k => {
+                let most = self.r.below(4);
+                let e = self.fresh(most.min(self.attributes), most);
+                if k < 4 { format!("[{}] {}", self.word(), e.text) } else { e.text }
+            }
+        }
+    }
+    fn print(&mut self) -> String {
+        let items: Vec<String> = (0..1 + self.r.below(3)).map(|_| self.item()).collect();
+        format!("PRINT {};\n", items.join(", "))
+    }
+    fn block(&mut self, d: usize) -> String {
+        let body: String = (0..1 + self.r.below(2)).map(|_| self.statement(d)).collect();
+        format!("{{\n{body}}}\n")
+    }
+    fn statement(&mut self, d: usize) -> String {
+        self.closures = 0;
+        match if d == 0 { self.r.below(10) } else { self.r.below(16) } {
+            0..=4 => self.assignment(),
+            5..=9 => self.print(),
+            10 => {
+                let e = self.fresh(0, 0);
+                format!("IF {} {}ELSE {}", e.text, self.block(d - 1), self.block(d - 1))
+            }
+            11 => {
+                let e = self.fresh(0, 0);
+                format!("WHILE {} {}", e.text, self.block(d - 1))
+            }
+            _ => {
+                let e = self.fresh(1, 1);
+                let v = VARIABLES[self.open.len()];
+                self.open.push(v);
+                let body = self.block(d - 1);
+                self.open.pop();
+                format!("FOR {v} IN {} {body}", e.text)
+            }
+        }
+    }
+}
+
+/// Facts over so many elements, in any order: all of them first, then tuples, in which the first and the last element are met often.
+fn facts(r: &mut Random, all: &[String]) -> String {
+    let quoted = |r: &mut Random, e: &String| {
+        let plain = !e.is_empty() && !e.contains(' ') && !r.one_in(9);
+        if plain { format!(" {e}") } else { format!(" \"{e}\"") }
+    };
+    let mut order: Vec<&String> = all.iter().collect();
+    shuffle(r, &mut order);
+    let mut out: String = order.iter().map(|e| format!("All{}\n", quoted(r, e))).collect();
+    for (name, arity) in &RELATIONS[..5] {
+        let lines = all.len() * *r.pick(&[0, 1, 1, 2, 4]);
+        for _ in 0..lines.min(200) {
+            out.push_str(name);
+            for _ in 0..*arity {
+                let e = match r.below(8) {
+                    0 => all.len() - 1,
+                    1 => 0,
+                    _ => r.below(all.len()),
+                };
+                out.push_str(&quoted(r, &all[e]));
+            }
+            out.push('\n');
+        }
+    }
+    out
+}
+
+/// Two accepted texts. The universe has as many elements as one of `SIZES` says, or one or two more by strings on left sides.
+pub fn texts(r: &mut Random) -> (Vec<u8>, Vec<u8>) {
+    let size = *r.pick(&SIZES);
+    let mut strings = elements(r, size);
+    let facts = facts(r, &strings);
+    let most = (1..=4).filter(|n| size.pow(*n as u32) <= ROWS).max().unwrap_or(1);
+    let attributes = if r.one_in(60) { 3 } else { 1 + r.below(most) };
+    strings.extend(["new".to_string(), "f".to_string()]);
+    let w = &mut Writer { r, strings, given: size, attributes, open: Vec::new(), closures: 0 };
+    let query: String = (0..1 + w.r.below(4)).map(|_| w.statement(2)).collect();
+    (facts.into_bytes(), query.into_bytes())
+}
