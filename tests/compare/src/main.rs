@@ -31,7 +31,8 @@ impl Counts {
     }
 }
 
-/// The run that a text asks for, then runs with budget, store and buffer at the edge of what the first one took.
+/// The run that a text asks for, then runs with budget, store and buffer at the edge of what the first one took, and with a buffer that
+/// a PRINT before the last fills, or would by one byte more.
 fn runs_differ(t: &Texts, accepted: &Result<Accepted, Refusal>, met: &mut Met) -> Difference {
     let needed = accepted.as_ref().map_or(0, |w| w.checked().words);
     let words = if t.spare < 0 { needed.saturating_sub(1) } else { needed + t.spare as usize };
@@ -47,6 +48,10 @@ fn runs_differ(t: &Texts, accepted: &Result<Accepted, Refusal>, met: &mut Met) -
     if written > 0 {
         run(t.budget, needed + 1, written - 1, met)?;
     }
+    if let Some(&page) = ran.pages.get(ran.pages.len() / 2).filter(|&&page| 0 < page && page < written) {
+        run(t.budget, needed, page - 1, met)?;
+        run(t.budget, needed, page, met)?;
+    }
     run(steps, needed, written + 1, met)?;
     Ok(())
 }
@@ -54,7 +59,9 @@ fn runs_differ(t: &Texts, accepted: &Result<Accepted, Refusal>, met: &mut Met) -
 fn text_differs(t: &Texts, met: &mut Met) -> Difference {
     let accepted = accept(&t.facts, &t.query);
     check_differs(&t.facts, &t.query, &accepted, met)?;
-    elements_differ(&t.facts, &t.query, &accepted)?;
+    if t.elements {
+        elements_differ(&t.facts, &t.query, &accepted)?;
+    }
     runs_differ(t, &accepted, met)?;
     t.chains.iter().try_for_each(|c| chain_differs(&t.facts, c, met))
 }

@@ -34,6 +34,8 @@ pub struct Texts {
     /// words of store beyond those needed, or missing from them
     pub spare: i64,
     pub room: usize,
+    /// whether each element is asked for
+    pub elements: bool,
     pub chains: Vec<Chain>,
 }
 
@@ -498,7 +500,7 @@ fn fewer_facts(facts: &mut Vec<u8>, query: &[u8]) {
 pub fn texts(number: u64) -> Texts {
     let r = &mut Random::new(number);
     let limits = 3 * LIMITS as u64;
-    if number >= limits && r.one_in(3) {
+    if number >= limits && r.one_in(4) {
         return shaped(r);
     }
     let (mut facts, mut query) = match number {
@@ -521,7 +523,7 @@ pub fn texts(number: u64) -> Texts {
     let spare = if number >= limits && r.one_in(8) { -1 } else { r.below(4) as i64 };
     let room = if number >= limits && r.one_in(3) { r.below(60) } else { 4000 };
     let chains = chains(r, &facts);
-    Texts { facts, query, budget, spare, room, chains }
+    Texts { facts, query, budget, spare, room, elements: true, chains }
 }
 
 /// Shapes whose steps are short enough.
@@ -535,5 +537,5 @@ fn shaped(r: &mut Random) -> Texts {
     };
     let budget = (*r.pick(&[2, 5, 10, 50])).min(8 * NODES / nodes) as u32;
     let room = *r.pick(&[0, 10, 100, 1000, 40_000, 40_000]);
-    Texts { facts, query, budget, spare: r.below(4) as i64, room, chains: Vec::new() }
+    Texts { facts, query, budget, spare: r.below(4) as i64, room, elements: r.one_in(30), chains: Vec::new() }
 }

@@ -103,6 +103,8 @@ pub struct Ran {
     pub ending: Ending,
     pub steps: u64,
     pub output: Vec<u8>,
+    /// the output's length after each PRINT
+    pub pages: Vec<usize>,
     /// the relations' words, in store order
     pub tables: Vec<u64>,
 }
@@ -124,10 +126,10 @@ impl Accepted {
         let world = World { universe: &self.universe, names: &self.names, tables: self.loaded(), variables: BTreeMap::new() };
         let quoted: BTreeSet<usize> =
             self.facts.facts.iter().flat_map(|f| &f.elements).filter(|e| e.quoted).map(|e| self.number(&e.value)).collect();
-        let mut run = Run { world, quoted, budget: budget as u64, room, steps: 0, output: Vec::new() };
+        let mut run = Run { world, quoted, budget: budget as u64, room, steps: 0, output: Vec::new(), pages: Vec::new() };
         let ending = run.program(&self.program);
         let tables = self.names.relations.iter().flat_map(|r| self.words(&run.world.tables[&r.name], r.arity)).collect();
-        Ok(Ran { ending, steps: run.steps, output: run.output, tables })
+        Ok(Ran { ending, steps: run.steps, output: run.output, pages: run.pages, tables })
     }
     fn element(&self, n: usize) -> [usize; 3] {
         let Some(text) = self.universe.get(n) else {

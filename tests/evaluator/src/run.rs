@@ -18,6 +18,7 @@ pub struct Run<'a> {
     pub room: usize,
     pub steps: u64,
     pub output: Vec<u8>,
+    pub pages: Vec<usize>,
 }
 
 type Res = Result<(), Ending>;
@@ -96,6 +97,7 @@ impl Run<'_> {
                     return Err(Ending::Full);
                 }
                 self.output.extend(page);
+                self.pages.push(self.output.len());
                 self.steps += 1;
             }
             Stmt::If(_, e, yes, no) => {

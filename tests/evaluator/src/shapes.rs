@@ -3,7 +3,7 @@
 //! quantifiers, joins of several atoms, and every kind of left side and printed column.
 use crate::generate::Random;
 
-const RELATIONS: [(&str, usize); 8] = [("On", 2), ("Held", 1), ("P", 0), ("T", 3), ("Dep", 2), ("All", 1), ("Triple", 3), ("Q", 2)];
+const RELATIONS: [(&str, usize); 8] = [("On", 2), ("Held", 1), ("P", 0), ("T", 3), ("Dep", 2), ("All", 1), ("Q", 2), ("R", 1)];
 const ATTRIBUTES: [&str; 4] = ["x", "y", "z", "w"];
 const VARIABLES: [&str; 2] = ["c", "v"];
 const SIGNS: [&str; 6] = ["=", "!=", "<", "<=", ">", ">="];
@@ -258,7 +258,7 @@ fn facts(r: &mut Random, all: &[String]) -> String {
     let mut out: String = order.iter().map(|e| format!("All{}\n", quoted(r, e))).collect();
     for (name, arity) in &RELATIONS[..5] {
         let lines = all.len() * *r.pick(&[0, 1, 1, 2, 4]);
-        for _ in 0..lines.min(200) {
+        for _ in 0..lines.min(if *arity == 0 { 1 } else { 100 }) {
             out.push_str(name);
             for _ in 0..*arity {
                 let e = match r.below(8) {
