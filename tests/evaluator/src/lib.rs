@@ -2,6 +2,7 @@
 //! no fault with the engine or its definition.
 pub mod cases;
 pub mod facts;
+pub mod forms;
 pub mod generate;
 pub mod json;
 pub mod meaning;

@@ -1,6 +1,6 @@
-//! How many generated texts are accepted, and how the others are refused: what the comparisons reach.
+//! How many generated texts are accepted, how the others are refused, and which forms the accepted ones have: what the comparisons reach.
 use evaluator::generate::{texts, LIMITS};
-use evaluator::{chain, check, run};
+use evaluator::{accept, chain, forms};
 use std::collections::BTreeMap;
 
 fn main() {
@@ -8,8 +8,12 @@ fn main() {
     let mut tally: BTreeMap<String, u64> = BTreeMap::new();
     for number in 0..count {
         let t = texts(number);
-        let needed = check(&t.facts, &t.query).map_or(0, |c| c.words as i64);
-        let what = match run(&t.facts, &t.query, t.budget, (needed + t.spare).max(0) as usize, t.room) {
+        let accepted = accept(&t.facts, &t.query);
+        if let Ok(w) = &accepted {
+            forms::of(w).into_iter().for_each(|form| *tally.entry(form).or_default() += 1);
+        }
+        let store = |needed: usize| (needed as i64 + t.spare).max(0) as usize;
+        let what = match accepted.and_then(|w| w.run(t.budget, store(w.checked().words), t.room)) {
             Ok(r) => format!("{:?}", r.ending),
             Err((row, place)) => {
                 if number < 3 * LIMITS as u64 {

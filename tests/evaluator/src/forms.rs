@@ -1,0 +1,130 @@
+//! Which forms the expressions and statements of accepted texts have, by name: what the tally counts.
+use crate::parse::{Expr, Item, Stmt, Term};
+use crate::Accepted;
+
+pub struct Forms<'a> {
+    texts: &'a Accepted,
+    found: Vec<String>,
+}
+
+/// What an expression stands in: the attributes that quantifiers around it bind, and whether a connective is around it.
+#[derive(Clone, Default)]
+struct Around {
+    bound: Vec<Vec<u8>>,
+    connective: bool,
+}
+
+/// Every name of an attribute or variable that stands in an expression.
+fn occurs(e: &Expr, x: &[u8]) -> bool {
+    let is = |p: &Term| matches!(p, Term::Name(t) if t.text == x);
+    match e {
+        Expr::Atom(_, ps) | Expr::True(ps) | Expr::False(ps) => ps.iter().any(is),
+        Expr::Sign(_, a, b) => is(a) || is(b),
+        Expr::Not(a) | Expr::Tc(a) | Expr::Ex(_, a) | Expr::Fa(_, a) => occurs(a, x),
+        Expr::Two(_, a, b) | Expr::Compare(_, a, b) => occurs(a, x) || occurs(b, x),
+    }
+}
+
+impl Forms<'_> {
+    fn add(&mut self, what: String) {
+        self.found.push(what);
+    }
+    fn term(&self, p: &Term) -> &'static str {
+        match p {
+            Term::Any => "_",
+            Term::Name(t) if self.texts.names.is_variable(&t.text) => "variable",
+            Term::Name(_) => "attribute",
+            Term::Quoted(t) if self.texts.universe.contains(&t.text) => "string",
+            Term::Quoted(_) => "string outside",
+        }
+    }
+    fn terms(&mut self, ps: &[Term]) {
+        for (i, p) in ps.iter().enumerate() {
+            self.add(format!("atom of {}: {} in place {}", ps.len(), self.term(p), i + 1));
+        }
+        let names: Vec<&[u8]> = ps.iter().filter(|p| self.term(p) == "attribute").filter_map(|p| if let Term::Name(t) = p { Some(t.text.as_slice()) } else { None }).collect();
+        let most = names.iter().map(|x| names.iter().filter(|y| *y == x).count()).max().unwrap_or(0);
+        if most > 1 {
+            self.add(format!("atom of {}: an attribute {most} times", ps.len()));
+        }
+    }
+    fn quantifier(&mut self, x: &[u8], inside: &Expr, around: &Around) {
+        let free = self.texts.names.free(inside).iter().any(|y| y == x);
+        let how = if free { "free inside" } else if occurs(inside, x) { "bound again inside" } else { "not inside" };
+        let hides = if around.bound.iter().any(|y| y == x) { ", hiding" } else { "" };
+        self.add(format!("quantified attribute {how}{hides}"));
+        let mut inner = around.clone();
+        inner.bound.push(x.to_vec());
+        inner.connective = false;
+        self.expression(inside, &inner);
+    }
+    fn expression(&mut self, e: &Expr, around: &Around) {
+        let under = if around.bound.is_empty() { "" } else { " under a quantifier" };
+        match e {
+            Expr::Atom(_, ps) => self.terms(ps),
+            Expr::True(ps) | Expr::False(ps) => self.add(format!("TRUE or FALSE of {}", ps.len().min(4))),
+            Expr::Sign(s, a, b) => self.add(format!("{} {s} {}", self.term(a), self.term(b))),
+            Expr::Not(a) => self.expression(a, around),
+            Expr::Two(_, a, b) => {
+                let inner = Around { connective: true, ..around.clone() };
+                self.expression(a, &inner);
+                self.expression(b, &inner);
+            }
+            Expr::Ex(x, a) | Expr::Fa(x, a) => self.quantifier(&x.text, a, around),
+            Expr::Tc(a) => {
+                self.add(format!("closure{under}"));
+                self.expression(a, &Around::default());
+            }
+            Expr::Compare(_, a, b) => {
+                let part = if around.connective { " beside a connective" } else { "" };
+                self.add(format!("relation comparison{under}{part}"));
+                self.expression(a, &Around::default());
+                self.expression(b, &Around::default());
+            }
+        }
+    }
+    fn left(&mut self, left: &[Term]) {
+        let names: Vec<&Vec<u8>> = left.iter().filter_map(|p| if let Term::Name(t) = p { Some(&t.text) } else { None }).collect();
+        let again = (1..names.len()).any(|i| names[..i].contains(&names[i]));
+        let strings = left.len() - names.len();
+        self.add(format!("left side of {}: {strings} strings{}", left.len(), if again { ", an attribute again" } else { "" }));
+    }
+    fn item(&mut self, i: &Item) {
+        if let Item::Rows(label, e) = i {
+            let columns = self.texts.names.free(e).len();
+            self.add(format!("printed columns: {columns}{}", if label.is_some() { ", labelled" } else { "" }));
+            self.expression(e, &Around::default());
+        }
+    }
+    fn statements(&mut self, all: &[Stmt]) {
+        for s in all {
+            match s {
+                Stmt::Assign(_, _, left, e) => {
+                    self.left(left);
+                    self.expression(e, &Around::default());
+                }
+                Stmt::Print(_, items) => {
+                    self.add(format!("printed items: {}", items.len().min(4)));
+                    items.iter().for_each(|i| self.item(i));
+                }
+                Stmt::If(_, e, yes, no) => {
+                    self.expression(e, &Around::default());
+                    self.statements(yes);
+                    self.statements(no);
+                }
+                Stmt::While(_, e, body) | Stmt::For(_, _, e, body) => {
+                    self.expression(e, &Around::default());
+                    self.statements(body);
+                }
+                Stmt::Block(body) => self.statements(body),
+            }
+        }
+    }
+}
+
+/// Each form as often as it occurs.
+pub fn of(texts: &Accepted) -> Vec<String> {
+    let mut forms = Forms { texts, found: vec![format!("universe of {:2}", texts.universe.len())] };
+    forms.statements(&texts.program);
+    forms.found
+}
