@@ -488,9 +488,13 @@ fn nodes(facts: &[u8], query: &[u8]) -> u64 {
     accept(facts, query).map_or(1, |w| w.nodes())
 }
 
-/// Half of the lines, again and again, until there are so few elements that a step of the query is short.
-fn fewer_facts(facts: &mut Vec<u8>, query: &[u8]) {
-    while !facts.is_empty() && nodes(facts, query) > NODES / 10 {
+/// Half of the lines, again and again, until there are so few elements that a step of the query is short: its nodes then.
+fn fewer_facts(facts: &mut Vec<u8>, query: &[u8]) -> u64 {
+    loop {
+        let nodes = nodes(facts, query);
+        if facts.is_empty() || nodes <= NODES / 10 {
+            return nodes;
+        }
         let lines = facts.split_inclusive(|&b| b == 10).count();
         *facts = facts.split_inclusive(|&b| b == 10).take(lines / 2).collect::<Vec<_>>().concat();
     }
@@ -500,7 +504,7 @@ fn fewer_facts(facts: &mut Vec<u8>, query: &[u8]) {
 pub fn texts(number: u64) -> Texts {
     let r = &mut Random::new(number);
     let limits = 3 * LIMITS as u64;
-    if number >= limits && r.one_in(4) {
+    if number >= limits && r.one_in(5) {
         return shaped(r);
     }
     let (mut facts, mut query) = match number {
@@ -515,11 +519,12 @@ pub fn texts(number: u64) -> Texts {
     if number >= limits && r.one_in(10) {
         damage(r, &mut facts);
     }
-    if number >= limits {
-        fewer_facts(&mut facts, &query);
-    }
-    let most = if number < limits { 1000 } else { *r.pick(&[0, 1, 2, 3, 5, 10, 20, 50, 200]) };
-    let budget = if number < limits { most } else { most.min(NODES / nodes(&facts, &query)) } as u32;
+    let budget = if number < limits {
+        1000
+    } else {
+        let nodes = fewer_facts(&mut facts, &query);
+        (*r.pick(&[0, 1, 2, 3, 5, 10, 20, 50, 200])).min(NODES / nodes) as u32
+    };
     let spare = if number >= limits && r.one_in(8) { -1 } else { r.below(4) as i64 };
     let room = if number >= limits && r.one_in(3) { r.below(60) } else { 4000 };
     let chains = chains(r, &facts);

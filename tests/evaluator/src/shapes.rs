@@ -3,7 +3,7 @@
 //! quantifiers, joins of several atoms, and every kind of left side and printed column.
 use crate::generate::Random;
 
-const RELATIONS: [(&str, usize); 8] = [("On", 2), ("Held", 1), ("P", 0), ("T", 3), ("Dep", 2), ("All", 1), ("Q", 2), ("R", 1)];
+const RELATIONS: [(&str, usize); 8] = [("On", 2), ("Held", 1), ("T", 3), ("Dep", 2), ("P", 0), ("All", 1), ("Q", 2), ("R", 1)];
 const ATTRIBUTES: [&str; 4] = ["x", "y", "z", "w"];
 const VARIABLES: [&str; 2] = ["c", "v"];
 const SIGNS: [&str; 6] = ["=", "!=", "<", "<=", ">", ">="];
@@ -57,8 +57,8 @@ impl Writer<'_> {
     fn string(&mut self, left: bool) -> String {
         let all = &self.strings;
         let s = match self.r.below(8) {
-            // outside the universe, unless it is on some left side
             0 if !left => "absent",
+            // outside the universe too, unless it is on some left side
             1 if !left || all.len() <= 64 => &all[self.r.below(all.len())],
             2 if self.given > 0 => &all[self.given - 1],
             _ => &all[self.r.below(self.given.max(1))],
@@ -69,10 +69,10 @@ impl Writer<'_> {
         ATTRIBUTES[self.r.below(self.attributes)]
     }
     fn term(&mut self) -> (String, Option<&'static str>) {
-        match self.r.below(12) {
+        match self.r.below(20) {
             0 | 1 => ("_".into(), None),
             2 => (self.string(false), None),
-            3 | 4 if !self.open.is_empty() => (self.r.pick(&self.open).to_string(), None),
+            3..=5 if !self.open.is_empty() => (self.r.pick(&self.open).to_string(), None),
             _ => {
                 let x = self.attribute();
                 (x.into(), Some(x))
@@ -81,7 +81,7 @@ impl Writer<'_> {
     }
     fn terms(&mut self, n: usize) -> (Vec<String>, Vec<&'static str>) {
         let (mut texts, mut free) = (Vec::new(), Vec::new());
-        let same = if self.r.one_in(5) { Some(self.attribute()) } else { None };
+        let same = if self.r.one_in(9) { Some(self.attribute()) } else { None };
         for _ in 0..n {
             let (text, x) = match (same, self.term()) {
                 (Some(x), (_, Some(_))) => (x.into(), Some(x)),
@@ -93,7 +93,8 @@ impl Writer<'_> {
         (texts, free)
     }
     fn atom(&mut self) -> Expression {
-        let (name, arity) = *self.r.pick(&RELATIONS);
+        // the first four have tuples of the facts, and not all
+        let (name, arity) = if self.r.one_in(5) { *self.r.pick(&RELATIONS) } else { *self.r.pick(&RELATIONS[..4]) };
         let (terms, free) = self.terms(arity);
         Expression { text: format!("{name}({})", terms.join(",")), free }
     }
@@ -104,9 +105,9 @@ impl Writer<'_> {
         Expression { text, free }
     }
     fn leaf(&mut self) -> Expression {
-        match self.r.below(10) {
-            0 | 1 => self.sign(),
-            2 => {
+        match self.r.below(24) {
+            0..=3 => self.sign(),
+            4 => {
                 let name = *self.r.pick(&["TRUE", "FALSE"]);
                 let n = self.r.below(4);
                 let (terms, free) = self.terms(n);
@@ -117,18 +118,31 @@ impl Writer<'_> {
     }
     /// Atoms joined by one connective without brackets.
     fn join(&mut self) -> Expression {
-        let o = *self.r.pick(&[" & ", " & ", " & ", " | "]);
+        let o = *self.r.pick(&[" & ", " & ", " | "]);
         let mut all = self.leaf();
-        for _ in 0..1 + self.r.below(3) {
-            let not = *self.r.pick(&["", "", "", "!"]);
+        for _ in 0..1 + self.r.below(2) * self.r.below(3) {
+            let not = *self.r.pick(&["", "", "!"]);
             let next = self.leaf();
             all = Expression { text: format!("{}{o}{not}{}", all.text, next.text), free: joined(all.free, &next.free) };
         }
         Expression { text: format!("({})", all.text), free: all.free }
     }
     fn quantified(&mut self, x: &'static str, e: Expression) -> Expression {
-        let q = *self.r.pick(&["EX", "FA"]);
-        Expression { text: format!("{q}({x}, {})", e.text), free: e.free.into_iter().filter(|y| *y != x).collect() }
+        let free = e.free.into_iter().filter(|y| *y != x).collect();
+        let (q, guard) = *self.r.pick(&[("EX", ""), ("FA", ""), ("EX", "&"), ("FA", "->")]);
+        if guard.is_empty() {
+            return Expression { text: format!("{q}({x}, {})", e.text), free };
+        }
+        // most elements ruled out, so that it is neither true nor false for all values of the others
+        let (y, z) = (self.attribute(), self.attribute());
+        let (atom, more) = match self.r.below(4) {
+            0 => (format!("Held({x})"), vec![]),
+            1 => (format!("On({x},{y})"), vec![y]),
+            2 => (format!("On({y},{x})"), vec![y]),
+            _ => (format!("T({y},{x},{z})"), vec![y, z]),
+        };
+        let more: Vec<&'static str> = more.into_iter().filter(|y| *y != x).collect();
+        Expression { text: format!("{q}({x}, {atom} {guard} {})", e.text), free: joined(joined(Vec::new(), &more), &free) }
     }
     /// Over one or two attributes, inside or not, bound already or not.
     fn quantifier(&mut self, d: usize) -> Expression {
@@ -182,7 +196,7 @@ impl Writer<'_> {
         }
     }
     fn fresh(&mut self, least: usize, most: usize) -> Expression {
-        let d = 1 + self.r.below(4);
+        let d = 1 + self.r.below(if self.given > 16 { 3 } else { 4 });
         let e = self.expression(d);
         self.with_free(e, least, most)
     }
@@ -257,8 +271,13 @@ fn facts(r: &mut Random, all: &[String]) -> String {
     shuffle(r, &mut order);
     let mut out: String = order.iter().map(|e| format!("All{}\n", quoted(r, e))).collect();
     for (name, arity) in &RELATIONS[..5] {
-        let lines = all.len() * *r.pick(&[0, 1, 1, 2, 4]);
-        for _ in 0..lines.min(if *arity == 0 { 1 } else { 100 }) {
+        // sets have about half of the elements
+        let lines = match arity {
+            0 => r.below(2),
+            1 => all.len() * 3 / 4,
+            _ => all.len() * *r.pick(&[0, 1, 2, 2, 4]),
+        };
+        for _ in 0..lines.min(150) {
             out.push_str(name);
             for _ in 0..*arity {
                 let e = match r.below(8) {
