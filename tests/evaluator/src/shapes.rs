@@ -60,7 +60,7 @@ impl Writer<'_> {
             0 if !left => "absent",
             // outside the universe too, unless it is on some left side
             1 if !left || all.len() <= 64 => &all[self.r.below(all.len())],
-            2 if self.given > 0 => &all[self.given - 1],
+            2 | 3 if self.given > 0 => &all[self.given - 1],
             _ => &all[self.r.below(self.given.max(1))],
         };
         format!("\"{s}\"")
@@ -261,7 +261,8 @@ impl Writer<'_> {
     }
 }
 
-/// Facts over so many elements, in any order: all of them first, then tuples, in which the first and the last element are met often.
+/// Facts over so many elements, in any order: all of them first, then tuples of all elements or of three alone, the last one among them,
+/// so that it often is the only one to decide.
 fn facts(r: &mut Random, all: &[String]) -> String {
     let quoted = |r: &mut Random, e: &String| {
         let plain = !e.is_empty() && !e.contains(' ') && !r.one_in(9);
@@ -271,18 +272,21 @@ fn facts(r: &mut Random, all: &[String]) -> String {
     shuffle(r, &mut order);
     let mut out: String = order.iter().map(|e| format!("All{}\n", quoted(r, e))).collect();
     for (name, arity) in &RELATIONS[..5] {
-        // sets have about half of the elements
+        let few = r.one_in(2);
         let lines = match arity {
             0 => r.below(2),
+            _ if few => all.len().min(1 + r.below(4)),
+            // about half of the elements
             1 => all.len() * 3 / 4,
             _ => all.len() * *r.pick(&[0, 1, 2, 2, 4]),
         };
         for _ in 0..lines.min(150) {
             out.push_str(name);
             for _ in 0..*arity {
-                let e = match r.below(8) {
-                    0 => all.len() - 1,
-                    1 => 0,
+                let e = match r.below(if few { 4 } else { 9 }) {
+                    0 | 1 => all.len() - 1,
+                    2 => 0,
+                    3 => all.len() / 2,
                     _ => r.below(all.len()),
                 };
                 out.push_str(&quoted(r, &all[e]));
