@@ -10,7 +10,7 @@ use lib.Seq.{sets, length-take-le, take-at, drop-at}
 use Rattle.definition.specs.Text.{Text, same, member, some-of, span, gather}
 use Rattle.definition.specs.Limits.{Limits, document-01}
 use Rattle.definition.specs.Answer.{Answer, ok, _>>=_}
-use Rattle.definition.specs.Facts.{Relation, Fact, Facts, Line, use-relation, use-elements, with-fact, last-place, skipped, fact, read-lines, fact-lines}
+use Rattle.definition.specs.Facts.{Relation, Fact, Facts, Line, use-relation, use-elements, with-fact, last-place, skipped, fact, read-lines, fact-lines, Ascending}
 use Rattle.definition.specs.Tables.{Tuple, table, table-words}
 use Rattle.definition.specs.Accept.{Accepted, accept, elements, relation-words, scratch-words, words-needed}
 use Rattle.definition.specs.Names.{left-strings}
@@ -24,7 +24,7 @@ use Rattle.definition.proofs.UniverseSize.{universe-few}
 use Rattle.tuples.specs.Places.{with-tuple}
 use Rattle.tuples.proofs.Loading.{Alone, here, there, Numbered, tables-by, tables-by-none, tables-by-all, store-grows}
 use Rattle.parts.specs.Packed.{text-of}
-use Rattle.parts.specs.Entries.{index}
+use Rattle.parts.specs.Entries.{index, texts-of}
 use Rattle.facts.specs.declared.FactLine.{FactLine}
 use Rattle.facts.specs.Lines.{AllWithin, items-of}
 use Rattle.facts.specs.Words.{fact-at, line-word, relations-of}
@@ -128,6 +128,9 @@ module _ (store zeros : List ℕ) (needed : ℕ) (h : needed ≤ length store) (
     same-words = length-append words (drop needed (zeros ++ drop needed store)) ∙ omega (arith, e, first-words, ap length after, length-drop needed store)
 
 module _ (facts query : Text) (relations places firsts : List ℕ) (u : ℕ) (w : Accepted) (r : Ready facts query relations places firsts u w) where
+  pub in-byte-order : Ascending (texts-of facts query places)
+  in-byte-order = subst Ascending (sym (r .universe)) (universe document-01 facts query w (r .accepted) .ascending)
+
   pub loaded-none : (words : List ℕ) → words ≡ replicate (words-needed w) 0 → Loaded w (facts-from facts 0) words
   unfolding words-needed
   loaded-none words e =

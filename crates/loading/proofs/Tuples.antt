@@ -1,12 +1,12 @@
 -- The elements of an accepted fact, by their numbers in the universe.
-use Prim.Native.Nat.{ℕ, zero, suc, _+_, _<_, _≤_}
+use Prim.Native.Nat.{ℕ, zero, suc, _+_, _%_, _<_, _≤_}
 use mathlib.Core.Path.{_≡_, refl, sym, ap, subst, _∙_}
 use mathlib.Core.List.{List, [], _∷_, _++_, map}
 use native.Mathlib.Nat.{mod-eq-of-lt}
 use native.Mathlib.Omega.{arith}
 use native.Mathlib.Decide.{decLt}
 use lib.Dec.{T}
-use lib.ListN.{length, getD, take}
+use lib.ListN.{length, getD, take, drop}
 use Rattle.definition.specs.Text.{Text, same, member, some-of}
 use Rattle.definition.specs.Limits.{WORD-BYTES, ARITY}
 use Rattle.definition.specs.Facts.{Fact}
@@ -44,16 +44,25 @@ found facts query v ws h = go (decLt (position facts query x ws) (length ws))
     go (yes l) = (l, sym (same-eq x (getD (texts-of facts query ws) (position facts query x ws) []) (position-same facts query x ws l)))
     go (no l) = absurd (subst T (position-none facts query x ws (omega arith)) h)
 
--- the numbers of three items, of which the fact's come first
-pub three : (g : Item → ℕ) (f : FactLine) → f .arity ≤ ARITY → (x y z : ℕ) → x ≡ g (f .first) → y ≡ g (f .second) → z ≡ g (f .third) → take (f .arity) (x ∷ y ∷ z ∷ 0 ∷ []) ≡ map g (items-of f)
-three g f small x y z p q r = go (f .arity) small
+-- the place of a text that is the item's, in 8 bits
+pub number-at : (facts query : Text) (places : List ℕ) (a : ℕ) (x : Item) → x .len ≤ WORD-BYTES → (s : ℕ) → s ≡ start-of x → (t : Text) → t ≡ take (x .len) (drop (a + s) facts) → (k : ℕ) → k ≡ position facts query t places
+    → k % 256 ≡ element-number facts query places a x
+unfolding index
+number-at facts query places a x short s p t q k r =
+    ap (λ (i : ℕ). i % 256)
+    (r ∙ ap (λ (y : Text). position facts query y places) (q ∙ ap (λ (i : ℕ). take (x .len) (drop (a + i) facts)) p ∙ sym (facts-text facts query (a + start-of x) (x .len) 0 (omega arith) (omega arith))))
+
+-- the numbers of a fact's items, whatever follows them
+pub numbers-of : (g : Item → ℕ) (f : FactLine) → f .arity ≤ ARITY → (x y z : ℕ) → (0 < f .arity → x ≡ g (f .first)) → (1 < f .arity → y ≡ g (f .second)) → (2 < f .arity → z ≡ g (f .third))
+    → take (f .arity) (x ∷ y ∷ z ∷ 0 ∷ []) ≡ map g (items-of f)
+numbers-of g f small x y z = go (f .arity) small
   where
-    go : (n : ℕ) → n ≤ 3 → take n (x ∷ y ∷ z ∷ 0 ∷ []) ≡ map g (take n (f .first ∷ f .second ∷ f .third ∷ []))
-    go zero h = refl
-    go (suc zero) h = rw p
-    go (suc (suc zero)) h = rw (p, q)
-    go (suc (suc (suc zero))) h = rw (p, q, r)
-    go (suc (suc (suc (suc n)))) h = absurd (omega arith)
+    go : (n : ℕ) → n ≤ 3 → (0 < n → x ≡ g (f .first)) → (1 < n → y ≡ g (f .second)) → (2 < n → z ≡ g (f .third)) → take n (x ∷ y ∷ z ∷ 0 ∷ []) ≡ map g (take n (f .first ∷ f .second ∷ f .third ∷ []))
+    go zero h p q r = refl
+    go (suc zero) h p q r = rw (p (omega arith))
+    go (suc (suc zero)) h p q r = rw (p (omega arith), q (omega arith))
+    go (suc (suc (suc zero))) h p q r = rw (p (omega arith), q (omega arith), r (omega arith))
+    go (suc (suc (suc (suc n)))) h p q r = absurd (omega arith)
 
 -- items of at most 32 bytes
 abbrev pub Short : List Item → Type 0

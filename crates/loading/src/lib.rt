@@ -5,12 +5,13 @@ ghost use Prim.Native.Nat.{_+_, _-_, _≤_, _%_};
 ghost use lib.ListN.{length, getD, take, drop, replicate};
 ghost use lib.Seq.{sets};
 ghost use Rattle.definition.specs.Limits.{FACT-BYTES, WORD-BYTES};
-ghost use Rattle.definition.specs.Facts.{Fact};
+ghost use Rattle.definition.specs.Facts.{Fact, Ascending};
 ghost use Rattle.definition.specs.Tables.{table-words};
 ghost use Rattle.definition.specs.Accept.{Accepted, words-needed};
 ghost use Rattle.definition.specs.Assignment.{loaded};
 ghost use Rattle.definition.specs.Claim.{store-image};
 ghost use Rattle.tuples.specs.Places.{with-tuple};
+ghost use Rattle.parts.specs.Entries.{texts-of};
 ghost use Rattle.facts.specs.Lines.{AllWithin};
 ghost use Rattle.facts.specs.Words.{fact-at};
 ghost use Rattle.loading.specs.Given.{element-number, tuple-at, Ready, Loaded, AllLoaded};
@@ -19,36 +20,57 @@ use facts::Item;
 use facts::NextFact;
 use facts::next_fact;
 use facts::value_start;
+use hints::hinted_position;
+use hints::hints_of;
 use parts::index_of;
 use parts::packed;
+use parts::part;
 use scratch::clear;
 use tuples::load;
 use tuples::table_words;
 use words::word_at;
 
 // The number of an element of the line that starts at a: its index in the universe, which stands in byte order.
-fn element_number<'a>(facts: &'a [u8], query: &'a [u8], places: &[usize], a: usize, x: Item) -> u8
+fn element_number<'a>(
+    facts: &'a [u8],
+    query: &'a [u8],
+    places: &[usize],
+    hints: &[u8; 256],
+    a: usize,
+    x: Item,
+) -> u8
     requires { ⌜ (a ≤ FACT-BYTES) × (x .place ≤ FACT-BYTES) × (x .len ≤ WORD-BYTES) ⌝ }
-    ensures { λ r. ⌜ r ≡ element-number (now (facts .entry)) (now (query .entry)) (now (places .entry)) a x ⌝ }
+    ensures { λ r. ⌜ (Ascending (texts-of (now (facts .entry)) (now (query .entry)) (now (places .entry))) → r ≡ element-number (now (facts .entry)) (now (query .entry)) (now (places .entry)) a x) ⌝ }
 {
-    let v = packed(0, a + value_start(x), x.len, 0);
-    (index_of(facts, query, places, v) % 256) as u8
+    let t = part(facts, a + value_start(x), x.len);
+    (hinted_position(facts, query, places, hints, t) % 256) as u8
 }
 
-// The tuple of a fact of the line that starts at a; what follows its elements is not read.
+// The tuple of a fact of the line that starts at a: as many elements are looked up as it has.
 fn fact_tuple<'a>(
     facts: &'a [u8],
     query: &'a [u8],
     places: &[usize],
+    hints: &[u8; 256],
     a: usize,
     f: FactLine,
 ) -> [u8; 4]
     requires { ⌜ (a ≤ FACT-BYTES) × AllWithin FACT-BYTES f ⌝ }
-    ensures { λ r. ⌜ take (f .arity) r ≡ tuple-at (now (facts .entry)) (now (query .entry)) (now (places .entry)) a f ⌝ }
+    ensures { λ r. ⌜ (Ascending (texts-of (now (facts .entry)) (now (query .entry)) (now (places .entry))) → take (f .arity) r ≡ tuple-at (now (facts .entry)) (now (query .entry)) (now (places .entry)) a f) ⌝ }
 {
-    let first = element_number(facts, query, places, a, f.first);
-    let second = element_number(facts, query, places, a, f.second);
-    let third = element_number(facts, query, places, a, f.third);
+    let n = f.arity;
+    if n == 0 {
+        return [0, 0, 0, 0];
+    }
+    let first = element_number(facts, query, places, hints, a, f.first);
+    if n == 1 {
+        return [first, 0, 0, 0];
+    }
+    let second = element_number(facts, query, places, hints, a, f.second);
+    if n == 2 {
+        return [first, second, 0, 0];
+    }
+    let third = element_number(facts, query, places, hints, a, f.third);
     [first, second, third, 0]
 }
 
@@ -78,6 +100,7 @@ fn load_fact<'a>(
     places: &[usize],
     firsts: &[u64],
     u: u8,
+    hints: &[u8; 256],
     a: usize,
     f: FactLine,
     store: &mut [u64],
@@ -88,7 +111,7 @@ fn load_fact<'a>(
 {
     let n = f.arity;
     let k = index_of(facts, query, relations, packed(0, a, f.name_len, n));
-    let t = fact_tuple(facts, query, places, a, f);
+    let t = fact_tuple(facts, query, places, hints, a, f);
     load_at(store, firsts, u, k, n, t);
 }
 
@@ -106,12 +129,24 @@ fn load_words<'a>(
     ensures value { λ _. ⌜ ((w : Accepted) → Ready (now (facts .entry)) (now (query .entry)) (now (relations .entry)) (now (places .entry)) (now (firsts .entry)) u w → now (words .entry) ≡ replicate (words-needed w) 0 → AllLoaded w (now (words .exit))) ⌝ }
     ensures size { λ _. ⌜ length (now (words .exit)) ≡ length (now (words .entry)) ⌝ }
 {
+    let hints = hints_of(facts, query, places);
     let mut at: usize = 0;
     loop {
         match next_fact(facts, at) {
             NextFact::NoMore => return,
             NextFact::Fact(a, f, next) => {
-                load_fact(facts, query, relations, places, firsts, u, a, f, words);
+                load_fact(
+                    facts,
+                    query,
+                    relations,
+                    places,
+                    firsts,
+                    u,
+                    &hints,
+                    a,
+                    f,
+                    words,
+                );
                 at = next;
             }
         }

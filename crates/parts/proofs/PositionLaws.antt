@@ -1,10 +1,11 @@
 -- Where a text stands in a list of parts, and its number among their texts.
-use Prim.Native.Nat.{ℕ, suc, _<_, _≤_}
+use Prim.Native.Nat.{ℕ, zero, suc, _+_, _<_, _≤_}
 use mathlib.Core.Path.{_≡_, refl, sym, ap, subst, _∙_}
 use mathlib.Core.Bool.{Bool, true, false, cond, not, _||_}
 use mathlib.Core.List.{List, [], _∷_}
 use native.Mathlib.Nat.{zero-add}
 use native.Mathlib.Omega.{arith}
+use native.Mathlib.Decide.{decLt}
 use lib.Dec.{T}
 use lib.ListN.{length, getD}
 use Rattle.definition.specs.Text.{Text, same, span, member, some-of}
@@ -58,3 +59,22 @@ module _ (facts query t : Text) where
 
   pub position-no-number : (ws : List ℕ) → length ws ≤ position facts query t ws → numbers t (texts-of facts query ws) 0 ≡ []
   position-no-number ws h = no-number t (texts ws) 0 (position-none ws h)
+
+  getD-texts : (ws : List ℕ) (k : ℕ) → k < length ws → getD (texts ws) k [] ≡ text-of facts query (getD ws k 0)
+  getD-texts [] k h = absurd (omega arith)
+  getD-texts (w ∷ ws) zero h = refl
+  getD-texts (w ∷ ws) (suc k) h = getD-texts ws k (omega arith)
+
+  -- in byte order no other part has it
+  pub position-at : (ws : List ℕ) (k : ℕ) → Ascending (texts-of facts query ws) → k < length ws → same t (text-of facts query (getD ws k 0)) ≡ true → k ≡ position facts query t ws
+  position-at ws k a h e = go (decLt (position facts query t ws) (length ws))
+    where
+      there : same t (getD (texts ws) k []) ≡ true
+      there = ap (same t) (getD-texts ws k h) ∙ e
+
+      only : numbers t (texts ws) 0 ≡ (0 + k) ∷ []
+      only = number-of t (texts ws) 0 k a (rw (length-texts facts query ws) h) (rw there tt)
+
+      go : Dec (position facts query t ws < length ws) → k ≡ position facts query t ws
+      go (yes l) = let z : (0 + k) ∷ [] ≡ position facts query t ws ∷ [] = sym only ∙ position-number ws a l in let y : 0 + k ≡ position facts query t ws = cc in omega arith
+      go (no l) = let z : _≡_ {A = ℕ} 0 1 = cc (sym only ∙ position-no-number ws (omega arith)) in absurd (omega arith)

@@ -130,7 +130,7 @@ pub enum Entered {
 }
 
 // Enters v at its place in the list of the first n words; where it is full, the words stay.
-fn enter_at(words: &mut [usize], n: usize, v: usize, place: Place) -> Entered
+pub fn enter_at(words: &mut [usize], n: usize, v: usize, place: Place) -> Entered
     requires { ⌜ (n ≤ length (now words)) × PlaceWithin n place ⌝ }
     ensures value { λ r. ⌜ r ≡ count-in (entered-at v (take n (now (words .entry))) place) (now (words .entry)) ⌝ }
     ensures words { λ _. ⌜ now (words .exit) ≡ in-front (entered-at v (take n (now (words .entry))) place) (now (words .entry)) ⌝ }
@@ -168,7 +168,7 @@ pub fn enter_part<'a>(
 }
 
 // As `place_of`, in few steps: each halves the list.
-fn find_place<'a>(facts: &'a [u8], query: &'a [u8], parts: &[usize], v: usize) -> Place
+pub fn find_place<'a>(facts: &'a [u8], query: &'a [u8], parts: &[usize], v: usize) -> Place
     requires { ⌜ Ascending (texts-of (now facts) (now query) (now parts)) ⌝ }
     ensures value { λ r. ⌜ enter (now (facts .entry)) (now (query .entry)) v (now (parts .entry)) ≡ entered-at v (now (parts .entry)) r ⌝ }
     ensures within { λ r. ⌜ PlaceWithin (length (now (parts .entry))) r ⌝ }

@@ -1,40 +1,33 @@
 use borrow.Author.Needs.{needs}
 use Rattle.loading.proofs.element_number.Statement.{statement}
 use Rattle.loading.proofs.element_number.Tie as tie
-use Prim.Native.Nat.{ℕ, _+_, _%_}
-use mathlib.Core.Path.{ap, _∙_}
-use denote.Ref.{now}
-use Rattle.parts.specs.Packed.{pack}
-use Rattle.parts.specs.Entries.{index}
+use Rattle.loading.proofs.Tuples.{number-at}
 
 value-start-requires : tie.Need-value-start-requires
 value-start-requires c κs = search needs
 
-add-packed : tie.Need-add-packed
-add-packed c = search needs
+add-part : tie.Need-add-part
+add-part c = search needs
 
-packed-requires : tie.Need-packed-requires
-packed-requires c κs = search needs
+part-requires : tie.Need-part-requires
+part-requires c κs = search needs
 
-index-of-requires : tie.Need-index-of-requires
-index-of-requires c κs = search needs
+hinted-position-requires : tie.Need-hinted-position-requires
+hinted-position-requires c κs = search needs
 
 cast-result : tie.Need-cast-result
 cast-result c = search needs
 
 returns : tie.Need-returns
-returns c =
-    let a = c .before .before .before .before .before .before .args in
-    ap (λ (i : ℕ). i % 256)
-    (c .index-of .ensures .0 ∙ ap (λ (v : ℕ). index (now (a .facts)) (now (a .query)) v (now (a .places))) (c .before .packed .ensures ∙ ap (λ (i : ℕ). pack 0 (a .a + i) (a .x .len) 0) (c .before .before .value-start .ensures .0)))
+returns c = λ s. number-at _ _ _ (c .before .before .before .before .before .before .args .a) (c .before .before .before .before .before .before .args .x) (c .before .before .before .before .before .before .pre .2) _ (c .before .before .value-start .ensures .0) _ (c .before .part .ensures) _ (c .hinted-position .ensures s)
 
 pub element-number-spec : {M : Type 1} → statement M
 element-number-spec =
     tie.close
     (tie.spec
     value-start-requires
-    add-packed
-    packed-requires
-    index-of-requires
+    add-part
+    part-requires
+    hinted-position-requires
     cast-result
     returns)

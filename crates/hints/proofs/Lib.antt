@@ -1,0 +1,2 @@
+-- What a proposal that has the text says.
+pub mod Found

@@ -1,0 +1,1 @@
+-- The contracts of this crate are in the words of `parts`.
