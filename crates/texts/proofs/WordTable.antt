@@ -2,10 +2,11 @@
 use Prim.Native.Nat.{ℕ, zero, suc, _+_, _*_, _<_, _≤_}
 use mathlib.Core.Path.{_≡_, refl, sym, ap, subst, _∙_}
 use mathlib.Core.List.{List, [], _∷_}
-use mathlib.Core.Bool.{Bool, true, false, _&&_}
+use mathlib.Core.Bool.{Bool, true, false, _&&_, _||_, cond}
 use mathlib.Core.Logic.{⊎-elim}
 use native.Mathlib.Nat.{not-suc-le-zero, le-of-suc-le-suc, eq-or-lt-of-le, add-suc}
 use native.Mathlib.Numerals.{add-one}
+use native.Mathlib.Omega.{arith}
 use lib.Dec.{T, leb, leb→le}
 use lib.ListN.{length, getD, take, drop, drop-of-length-le}
 use lib.Seq.{drop-cons}
@@ -107,3 +108,52 @@ unfolding reserved member some-of word-terminal
 search-end w k h u =
     let e : drop k reserved ≡ [] = drop-of-length-le reserved h in
     (sym (u .listed ∙ rw e), λ i. u .terminal i ∙ rw e)
+
+-- ---- a word that no row can be
+
+-- the row k has from 2 to 7 letters, the second of them no later than Z
+capital : ℕ → Bool
+capital k = leb 2 (length (getD reserved k [])) && (leb (length (getD reserved k [])) 7 && leb (getD (getD reserved k []) 1 0) 90)
+
+all-capital : T (all-below 26 capital)
+unfolding all-below capital reserved
+all-capital = tt
+
+pub record Capital (w : Text) : Type 0 where
+  pub long : 2 ≤ length w
+  pub short : length w ≤ 7
+  pub second : getD w 1 0 ≤ 90
+
+row-capital : (k : ℕ) → k < 26 → Capital (getD reserved k [])
+unfolding capital
+row-capital k h =
+    let t = below capital 26 all-capital k h in
+    let u = and-right (leb 2 (length (getD reserved k []))) _ t in
+    record {
+      long = leb→le _ _ (and-left (leb 2 (length (getD reserved k []))) _ t);
+      short = leb→le _ _ (and-left (leb (length (getD reserved k [])) 7) _ u);
+      second = leb→le _ _ (and-right (leb (length (getD reserved k [])) 7) _ u);
+    }
+
+none-of : (w : Text) (ws : List Text) → ((k : ℕ) → k < length ws → same w (getD ws k []) ≡ false) → member w ws ≡ false
+unfolding member some-of
+none-of w [] h = refl
+none-of w (v ∷ ws) h = rw (h 0 (omega arith)) (none-of w ws (λ k l. h (suc k) (omega arith)))
+
+pub not-reserved : (w : Text) → (Capital w → ⊥) → member w reserved ≡ false
+unfolding reserved
+not-reserved w n = none-of w reserved (λ k h. go k h (same w (getD reserved k [])) refl)
+  where
+    go : (k : ℕ) → k < 26 → (b : Bool) → same w (getD reserved k []) ≡ b → b ≡ false
+    go k h true e = absurd (n (subst Capital (sym (same-eq w (getD reserved k []) (rw e tt))) (row-capital k h)))
+    go k h false e = refl
+
+-- such a word is a name to the grammar
+pub name-terminal : (w : Text) (ws : List Text) (n i : ℕ) → member w ws ≡ false → word-terminal ws n w i ≡ name i
+unfolding member some-of word-terminal
+name-terminal w [] n i e = refl
+name-terminal w (v ∷ ws) n i e = go (same v w) (same-sym w v) e (name-terminal w ws (suc n) i)
+  where
+    go : (b : Bool) → same w v ≡ b → same w v || member w ws ≡ false → (member w ws ≡ false → word-terminal ws (suc n) w i ≡ name i) → cond b (key n) (word-terminal ws (suc n) w i) ≡ name i
+    go true s e ih = let z : _≡_ {A = Bool} true false = sym (ap (λ (b : Bool). b || member w ws) s) ∙ e in let y : _≡_ {A = ℕ} 0 1 = cc in absurd (omega arith)
+    go false s e ih = ih (sym (ap (λ (b : Bool). b || member w ws) s) ∙ e)

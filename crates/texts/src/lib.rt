@@ -1,5 +1,6 @@
 // Texts as slices of bytes: their order and equality, the classes of bytes, the reserved words, names.
 ghost use mathlib.Core.Path.{_≡_};
+ghost use mathlib.Core.Bool.{true, false};
 ghost use Prim.Native.Nat.{ℕ, _+_, _≤_, _<_};
 ghost use lib.ListN.{length, drop};
 ghost use Rattle.definition.specs.Text.{same, span, member, reserved, is-letter, is-part, is-legal, is-blank, is-name, between};
@@ -199,12 +200,28 @@ pub enum Word {
     Identifier,
 }
 
+// Whether w is not reserved by its length or its second letter: most names are told so, before the table is made.
+fn is_other(w: &[u8]) -> bool
+    ensures { λ r. ⌜ (r ≡ true → member (now (w .entry)) reserved ≡ false) ⌝ }
+{
+    if w.len() < 2 {
+        return true;
+    }
+    if 7 < w.len() {
+        return true;
+    }
+    90 < w[1]
+}
+
 // The reserved word that the text w is.
 pub fn reserved_word(w: &[u8]) -> Word
     ensures listed { λ r. ⌜ is-reserved r ≡ member (now (w .entry)) reserved ⌝ }
     ensures terminal { λ r. ⌜ ((i : ℕ) → word-terminal reserved FIRST-WORD (now (w .entry)) i ≡ terminal-of r i) ⌝ }
     ensures index { λ r. ⌜ index-of r < 26 ⌝ }
 {
+    if is_other(w) {
+        return Word::Identifier;
+    }
     let words = WORDS;
     let lengths = LENGTHS;
     let mut k: usize = 0;

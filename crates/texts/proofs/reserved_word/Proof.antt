@@ -9,13 +9,22 @@ use native.Mathlib.Nat.{add-sub-cancel-left}
 use denote.Ref.{now}
 use lib.ListN.{getD, take, drop}
 use Rattle.definition.specs.Text.{Text, same, reserved}
-use Rattle.texts.proofs.WordTable.{letters, lengths, row-short, row-word, Unlisted, search-start, search-found, search-next, search-end}
+use Rattle.definition.specs.Token.{FIRST-WORD}
+use Rattle.texts.proofs.WordTable.{letters, lengths, row-short, row-word, Unlisted, search-start, search-found, search-next, search-end, name-terminal}
 
 abbrev Inv-loop : tie.InvT-loop
 Inv-loop w words lengths k₀ k = (k ≤ 26) × Unlisted w k
 
 abbrev μ-loop : tie.MeasureT-loop
 μ-loop w words lengths k₀ k = 26 - k
+
+is-other-requires : tie.Need-is-other-requires Inv-loop μ-loop
+is-other-requires c κs = search needs
+
+returns : tie.Need-returns Inv-loop μ-loop
+returns c =
+    let n = c .before .is-other .ensures (c .if1 .taken) in
+    (sym n, (λ i. name-terminal _ reserved FIRST-WORD i n, omega arith))
 
 loop-holds : tie.Need-loop-holds Inv-loop μ-loop
 loop-holds c = (omega arith, search-start _)
@@ -50,16 +59,16 @@ same-requires c κs = search needs
 
 -- what the call of `same` answers is whether the word is that of the row
 compared : (c : tie.After-same Inv-loop μ-loop)
-    → c .same .result ≡ same (getD reserved (c .before .before .before .before .loop .k) []) (now (c .before .before .before .before .before .before .args .w))
+    → c .same .result ≡ same (getD reserved (c .before .before .before .before .loop .k) []) (now (c .before .before .before .before .before .before .before .before .args .w))
 unfolding lengths letters
 compared c =
     let p = c .before .before .before in
     c .same .ensures
-    ∙ ap (λ (l : Text). same l (now (p .before .before .before .args .w)))
+    ∙ ap (λ (l : Text). same l (now (p .before .before .before .before .before .args .w)))
     (ap (λ (n : ℕ). take n (drop (p .before .loop .k * 7) letters)) (add-sub-cancel-left (p .before .loop .k * 7) _) ∙ row-word (p .before .loop .k) (omega (arith, p .loop-test .taken)))
 
-returns : tie.Need-returns Inv-loop μ-loop
-returns c = let p = c .before .before .before .before in let f = search-found _ (p .before .loop .k) (omega (arith, p .loop-test .taken)) (p .before .loop .inv .1) (sym (compared (c .before)) ∙ c .if1 .taken) in (f .0, (f .1, omega (arith, p .loop-test .taken)))
+returns-2 : tie.Need-returns-2 Inv-loop μ-loop
+returns-2 c = let p = c .before .before .before .before in let f = search-found _ (p .before .loop .k) (omega (arith, p .loop-test .taken)) (p .before .loop .inv .1) (sym (compared (c .before)) ∙ c .if2 .taken) in (f .0, (f .1, omega (arith, p .loop-test .taken)))
 
 add-k : tie.Need-add-k Inv-loop μ-loop
 add-k c = omega arith
@@ -68,10 +77,10 @@ loop-less : tie.Need-loop-less Inv-loop μ-loop
 loop-less c = omega arith
 
 loop-again : tie.Need-loop-again Inv-loop μ-loop
-loop-again c = let p = c .before .before .before .before in (omega arith, search-next _ (p .before .loop .k) (omega (arith, p .loop-test .taken)) (p .before .loop .inv .1) (sym (compared (c .before)) ∙ c .if1 .left))
+loop-again c = let p = c .before .before .before .before in (omega arith, search-next _ (p .before .loop .k) (omega (arith, p .loop-test .taken)) (p .before .loop .inv .1) (sym (compared (c .before)) ∙ c .if2 .left))
 
-returns-2 : tie.Need-returns-2 Inv-loop μ-loop
-returns-2 c = let f = search-end _ (c .before .loop .k) (omega arith) (c .before .loop .inv .1) in (f .0, (f .1, omega arith))
+returns-3 : tie.Need-returns-3 Inv-loop μ-loop
+returns-3 c = let f = search-end _ (c .before .loop .k) (omega arith) (c .before .loop .inv .1) in (f .0, (f .1, omega arith))
 
 pub reserved-word-spec : {M : Type 1} → statement M
 reserved-word-spec =
@@ -79,6 +88,8 @@ reserved-word-spec =
     (tie.spec
     Inv-loop
     μ-loop
+    is-other-requires
+    returns
     loop-holds
     mul-a
     mul-n
@@ -88,8 +99,8 @@ reserved-word-spec =
     part-same-start
     part-same-end
     same-requires
-    returns
+    returns-2
     add-k
     loop-less
     loop-again
-    returns-2)
+    returns-3)
