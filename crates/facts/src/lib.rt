@@ -13,8 +13,8 @@ ghost use Rattle.facts.specs.Pass.{RelationUsed, UniverseUsed, FactTaken
 ghost use Rattle.facts.specs.Reading.{line-of, Taken, LinesRead, BytesRead, Meets};
 ghost use Rattle.facts.specs.Again.{FactOfLine, NextIs};
 use definition::Refusal;
+use hints::enter_hinted;
 use parts::Entered;
-use parts::enter_again;
 use parts::index_of;
 use parts::packed;
 use texts::Class;
@@ -303,6 +303,7 @@ fn use_elements<'a>(
     facts: &'a [u8],
     query: &'a [u8],
     universe: &mut [usize],
+    hints: &mut [u8; 256],
     n: usize,
     a: usize,
     f: FactLine,
@@ -315,7 +316,7 @@ fn use_elements<'a>(
     let mut i: usize = 0;
     while i < arity {
         let x = item_at(f, i);
-        match enter_again(facts, query, universe, count, element_word(a, x)) {
+        match enter_hinted(facts, query, universe, count, hints, element_word(a, x)) {
             Entered::Full => return ElementsUsed::TooMany(a + x.place),
             Entered::Count(m) => {
                 count = m;
@@ -356,6 +357,7 @@ fn with_fact<'a>(
     query: &'a [u8],
     relations: &mut [usize],
     universe: &mut [usize],
+    hints: &mut [u8; 256],
     c: Counts,
     a: usize,
     f: FactLine,
@@ -374,7 +376,7 @@ fn with_fact<'a>(
     ) {
         Used::Full => FactUsed::Refused(Refusal::TooManyRelations(a)),
         Used::OtherArity => FactUsed::Refused(Refusal::Arity(last_place(a, f))),
-        Used::Count(r) => match use_elements(facts, query, universe, m, a, f) {
+        Used::Count(r) => match use_elements(facts, query, universe, hints, m, a, f) {
             ElementsUsed::TooMany(p) => FactUsed::Refused(Refusal::TooManyElements(p)),
             ElementsUsed::Elements(e) => FactUsed::Fits(Counts {
                 relations: r,
@@ -397,6 +399,7 @@ fn take_line<'a>(
     query: &'a [u8],
     relations: &mut [usize],
     universe: &mut [usize],
+    hints: &mut [u8; 256],
     c: Counts,
     a: usize,
     e: usize,
@@ -410,7 +413,7 @@ fn take_line<'a>(
         LineRead::BadName => LineTaken::Fails(Refusal::FactName(a)),
         LineRead::BadElement(p) => LineTaken::Fails(Refusal::FactElement(a + p)),
         LineRead::TooMany(p) => LineTaken::Fails(Refusal::Arity(a + p)),
-        LineRead::Holds(f) => match with_fact(facts, query, relations, universe, c, a, f) {
+        LineRead::Holds(f) => match with_fact(facts, query, relations, universe, hints, c, a, f) {
             FactUsed::Refused(q) => LineTaken::Fails(q),
             FactUsed::Fits(d) => LineTaken::More(d),
         },
@@ -433,6 +436,7 @@ fn read_lines<'a>(
     requires { ⌜ length (now facts) ≤ FACT-BYTES ⌝ }
     ensures { λ r. ⌜ LinesRead (now (facts .entry)) (now (query .entry)) (now (relations .entry)) (now (relations .exit)) (now (universe .entry)) (now (universe .exit)) r ⌝ }
 {
+    let mut hints = [255u8; 256];
     let mut c = Counts {
         relations: 0,
         elements: 0,
@@ -440,7 +444,7 @@ fn read_lines<'a>(
     let mut a: usize = 0;
     loop {
         let e = run_end(facts, a, Class::NoEnd);
-        match take_line(facts, query, relations, universe, c, a, e) {
+        match take_line(facts, query, relations, universe, &mut hints, c, a, e) {
             LineTaken::Dot => return FactsRead::Given(c),
             LineTaken::Fails(q) => return FactsRead::Refused(q),
             LineTaken::More(d) => {

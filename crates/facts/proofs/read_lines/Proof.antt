@@ -14,10 +14,10 @@ use Rattle.facts.proofs.ReadingLaws.{lines-dot, lines-last, lines-more,
 use Rattle.facts.proofs.ReadingLaws.{fails-at}
 
 abbrev Inv-loop : tie.InvT-loop
-Inv-loop facts query relations₀ universe₀ c₀ a₀ relations universe c a = (a ≤ length facts) × (length relations ≡ length relations₀) × (length universe ≡ length universe₀) × Reading facts query relations₀ universe₀ (lines a (cut (drop a facts))) relations universe c
+Inv-loop facts query relations₀ universe₀ hints₀ c₀ a₀ relations universe hints c a = (a ≤ length facts) × (length relations ≡ length relations₀) × (length universe ≡ length universe₀) × Reading facts query relations₀ universe₀ (lines a (cut (drop a facts))) relations universe c
 
 abbrev μ-loop : tie.MeasureT-loop
-μ-loop facts query relations₀ universe₀ c₀ a₀ relations universe c a = length facts - a
+μ-loop facts query relations₀ universe₀ hints₀ c₀ a₀ relations universe hints c a = length facts - a
 
 loop-holds : tie.Need-loop-holds Inv-loop μ-loop
 loop-holds c = (omega arith, refl, refl, reading-start _ _ _ _)
@@ -26,7 +26,7 @@ run-end-requires : tie.Need-run-end-requires Inv-loop μ-loop
 run-end-requires c κs = c .loop .inv .0
 
 take-line-requires : tie.Need-take-line-requires Inv-loop μ-loop
-take-line-requires c κs = let h = c .before .before .before .loop .inv .3 in (omega (arith, h .relations .room, held-length (h .relations)), omega (arith, h .elements .room, held-length (h .elements)), c .before .before .run-end .ensures .1 .0, c .before .before .run-end .ensures .1 .1, c .before .before .before .before .before .before .before .before .pre, reading-ascending _ _ _ _ h)
+take-line-requires c κs = let h = c .before .before .before .before .loop .inv .3 in (omega (arith, h .relations .room, held-length (h .relations)), omega (arith, h .elements .room, held-length (h .elements)), c .before .before .before .run-end .ensures .1 .0, c .before .before .before .run-end .ensures .1 .1, c .before .before .before .before .before .before .before .before .before .pre, reading-ascending _ _ _ _ h)
 
 enum-told : tie.Need-enum-told Inv-loop μ-loop
 enum-told c = search needs
@@ -39,9 +39,9 @@ same-length-2 c = search needs
 
 returns : tie.Need-returns Inv-loop μ-loop
 returns c =
-    let s = c .before .before .before .before .before .before .before .before .before .before .before .before .before .before .before in
-    let l = c .before .before .before .before .before .before .before .before .before .before .loop in
-    let run-end = c .before .before .before .before .before .before .before .before .before .run-end in
+    let s = c .before .before .before .before .before .before .before .before .before .before .before .before .before .before .before .before in
+    let l = c .before .before .before .before .before .before .before .before .before .before .before .loop in
+    let run-end = c .before .before .before .before .before .before .before .before .before .before .run-end in
     let take-line = c .before .before .before .before .before .before .take-line in
     let t = (subst (Taken (s .args .facts .now) (s .args .query .now) (line-of (s .args .facts .now) (l .a) (run-end .result)) (l .relations) (take-line .last .1 .1 .0) (l .universe) (take-line .last .1 .1 .1 .0) (l .c)) (c .enum-told .given .1) (take-line .ensures)) in reading-end _ _ _ _ (subst (λ (ls : List Line). Reading (s .args .facts .now) (s .args .query .now) (s .args .relations .now) (s .args .universe .now) ls (l .relations) (l .universe) (l .c)) (lines-dot (s .args .facts .now) (l .a) (run-end .result) (l .inv .0) (run-end .ensures .0) (run-end .ensures .1 .1) (t .0)) (l .inv .3)) (t .1) (t .2)
 
@@ -56,9 +56,9 @@ same-length-4 c = search needs
 
 returns-2 : tie.Need-returns-2 Inv-loop μ-loop
 returns-2 c =
-    let s = c .before .before .before .before .before .before .before .before .before .before .before .before .before .before .before .before in
-    let l = c .before .before .before .before .before .before .before .before .before .before .before .loop in
-    let run-end = c .before .before .before .before .before .before .before .before .before .before .run-end in
+    let s = c .before .before .before .before .before .before .before .before .before .before .before .before .before .before .before .before .before in
+    let l = c .before .before .before .before .before .before .before .before .before .before .before .before .loop in
+    let run-end = c .before .before .before .before .before .before .before .before .before .before .before .run-end in
     let take-line = c .before .before .before .before .before .before .before .take-line in
     let t = (subst (Taken (s .args .facts .now) (s .args .query .now) (line-of (s .args .facts .now) (l .a) (run-end .result)) (l .relations) (take-line .last .1 .1 .0) (l .universe) (take-line .last .1 .1 .1 .0) (l .c)) (c .before .q .given .1) (take-line .ensures)) in fails-at (s .args .facts .now) (l .a) (run-end .result) (l .inv .0) (run-end .ensures .0) (run-end .ensures .1 .1) (t .0) (s .args .query .now) (s .args .relations .now) (s .args .universe .now) (l .relations) (l .universe) (l .c) (l .inv .3) (take-line .last .1 .1 .0) (take-line .last .1 .1 .1 .0) (c .before .q .given .0 .0) (t .1)
 
@@ -73,23 +73,23 @@ same-length-6 c = search needs
 
 returns-3 : tie.Need-returns-3 Inv-loop μ-loop
 returns-3 c =
-    let s = c .before .before .before .before .before .before .before .before .before .before .before .before .before .before .before .before .before in
-    let l = c .before .before .before .before .before .before .before .before .before .before .before .before .loop in
-    let run-end = c .before .before .before .before .before .before .before .before .before .before .before .run-end in
+    let s = c .before .before .before .before .before .before .before .before .before .before .before .before .before .before .before .before .before .before in
+    let l = c .before .before .before .before .before .before .before .before .before .before .before .before .before .loop in
+    let run-end = c .before .before .before .before .before .before .before .before .before .before .before .before .run-end in
     let take-line = c .before .before .before .before .before .before .before .before .take-line in
     let t = (subst (Taken (s .args .facts .now) (s .args .query .now) (line-of (s .args .facts .now) (l .a) (run-end .result)) (l .relations) (take-line .last .1 .1 .0) (l .universe) (take-line .last .1 .1 .1 .0) (l .c)) (c .before .before .d .given .1) (take-line .ensures)) in reading-end _ _ _ _ (reading-more _ _ _ _ (subst (λ (ls : List Line). Reading (s .args .facts .now) (s .args .query .now) (s .args .relations .now) (s .args .universe .now) ls (l .relations) (l .universe) (l .c)) (lines-last (s .args .facts .now) (l .a) (run-end .result) (l .inv .0) (run-end .ensures .0) (run-end .ensures .1 .1) (t .0) (c .if1 .taken)) (l .inv .3)) (c .before .before .d .given .0 .0) t) refl refl
 
 add-a : tie.Need-add-a Inv-loop μ-loop
-add-a c = omega (arith, c .before .before .before .before .before .before .before .before .before .before .before .run-end .ensures .1, c .if1 .left)
+add-a c = omega (arith, c .before .before .before .before .before .before .before .before .before .before .before .before .run-end .ensures .1, c .if1 .left)
 
 loop-less : tie.Need-loop-less Inv-loop μ-loop
-loop-less c = omega (arith, c .before .before .before .before .before .before .before .before .before .before .before .run-end .ensures .1, c .if1 .left)
+loop-less c = omega (arith, c .before .before .before .before .before .before .before .before .before .before .before .before .run-end .ensures .1, c .if1 .left)
 
 loop-again : tie.Need-loop-again Inv-loop μ-loop
 loop-again c =
-    let s = c .before .before .before .before .before .before .before .before .before .before .before .before .before .before .before .before .before in
-    let l = c .before .before .before .before .before .before .before .before .before .before .before .before .loop in
-    let run-end = c .before .before .before .before .before .before .before .before .before .before .before .run-end in
+    let s = c .before .before .before .before .before .before .before .before .before .before .before .before .before .before .before .before .before .before in
+    let l = c .before .before .before .before .before .before .before .before .before .before .before .before .before .loop in
+    let run-end = c .before .before .before .before .before .before .before .before .before .before .before .before .run-end in
     let take-line = c .before .before .before .before .before .before .before .before .take-line in
     let t = (subst (Taken (s .args .facts .now) (s .args .query .now) (line-of (s .args .facts .now) (l .a) (run-end .result)) (l .relations) (take-line .last .1 .1 .0) (l .universe) (take-line .last .1 .1 .1 .0) (l .c)) (c .before .before .d .given .1) (take-line .ensures)) in let g = reading-more _ _ _ _ (subst (λ (ls : List Line). Reading (s .args .facts .now) (s .args .query .now) (s .args .relations .now) (s .args .universe .now) ls (l .relations) (l .universe) (l .c)) (lines-more (s .args .facts .now) (l .a) (run-end .result) (l .inv .0) (run-end .ensures .0) (run-end .ensures .1 .1) (t .0) (omega (arith, run-end .ensures .1, c .if1 .left))) (l .inv .3)) (c .before .before .d .given .0 .0) t in (omega (arith, run-end .ensures .1, c .if1 .left), held-length (g .relations), held-length (g .elements), g)
 

@@ -49,16 +49,16 @@ enum-told-3 c = search needs
 enum-known-p : tie.Need-enum-known-p
 enum-known-p c = search needs
 
-add-t20 : tie.Need-add-t20
-add-t20 c =
+add-t21 : tie.Need-add-t21
+add-t21 c =
     let s = c .before .before .before .before .before .before .before .before .before in
     omega (arith, (within (c .before .before .before) _ (c .before .p .given .1)), line-size (s .args .facts .now) (s .args .a) (s .args .e) (s .pre .2) (s .pre .3), s .pre)
 
 enum-known-p-2 : tie.Need-enum-known-p-2
 enum-known-p-2 c = search needs
 
-add-t22 : tie.Need-add-t22
-add-t22 c =
+add-t23 : tie.Need-add-t23
+add-t23 c =
     let s = c .before .before .before .before .before .before .before .before .before in
     omega (arith, (within (c .before .before .before) _ (c .before .p2 .given .1)), line-size (s .args .facts .now) (s .args .a) (s .args .e) (s .pre .2) (s .pre .3), s .pre)
 
@@ -67,8 +67,8 @@ enum-known-f c = search needs
 
 with-fact-requires : tie.Need-with-fact-requires
 with-fact-requires c κs =
-    let s = c .before .before .before .before .before .before .before .before .before .before .before in
-    (s .pre .0, s .pre .1, omega (arith, s .pre), s .pre .4, all-wider _ _ _ (omega (arith, line-size (s .args .facts .now) (s .args .a) (s .args .e) (s .pre .2) (s .pre .3), s .pre)) (within (c .before .before .before .before .before) _ (c .before .before .before .f .given .1)), s .pre .5)
+    let s = c .before .before .before .before .before .before .before .before .before .before .before .before in
+    (s .pre .0, s .pre .1, omega (arith, s .pre), s .pre .4, all-wider _ _ _ (omega (arith, line-size (s .args .facts .now) (s .args .a) (s .args .e) (s .pre .2) (s .pre .3), s .pre)) (within (c .before .before .before .before .before .before) _ (c .before .before .before .before .f .given .1)), s .pre .5)
 
 enum-known-q : tie.Need-enum-known-q
 enum-known-q c = search needs
@@ -109,10 +109,10 @@ same-length-2 c = search needs
 
 returns-6 : tie.Need-returns-6
 returns-6 c =
-    let s = c .before .before .before .before .before .before .before .before .before .before .before .before .before .before .before .before .before .before .before in
-    let f = c .before .before .before .before .before .before .before .before .before .before .before .f in
+    let s = c .before .before .before .before .before .before .before .before .before .before .before .before .before .before .before .before .before .before .before .before in
+    let f = c .before .before .before .before .before .before .before .before .before .before .before .before .f in
     let with-fact = c .before .before .before .before .before .before .before .with-fact in
-    taken-refused (s .args .facts .now) (s .args .query .now) (s .args .a) (s .args .e) (s .pre .2) (s .pre .3) (f .given .0 .0) (within (c .before .before .before .before .before .before .before .before .before .before .before .before .before) _ (f .given .1)) (role-is (c .before .before .before .before .before .before .before .before .before .before .before .before .before) _ (f .given .1)) (s .args .relations .now) (with-fact .last .1 .1 .0) (s .args .universe .now) (with-fact .last .1 .1 .1 .0) (s .args .c) (c .before .q .given .0 .0) (subst (FactTaken (s .args .facts .now) (s .args .query .now) (s .args .a) (f .given .0 .0) (s .args .relations .now) (with-fact .last .1 .1 .0) (s .args .universe .now) (with-fact .last .1 .1 .1 .0) (s .args .c)) (c .before .q .given .1) (with-fact .ensures))
+    taken-refused (s .args .facts .now) (s .args .query .now) (s .args .a) (s .args .e) (s .pre .2) (s .pre .3) (f .given .0 .0) (within (c .before .before .before .before .before .before .before .before .before .before .before .before .before .before) _ (f .given .1)) (role-is (c .before .before .before .before .before .before .before .before .before .before .before .before .before .before) _ (f .given .1)) (s .args .relations .now) (with-fact .last .1 .1 .0) (s .args .universe .now) (with-fact .last .1 .1 .1 .0) (s .args .c) (c .before .q .given .0 .0) (subst (FactTaken (s .args .facts .now) (s .args .query .now) (s .args .a) (f .given .0 .0) (s .args .relations .now) (with-fact .last .1 .1 .0) (s .args .universe .now) (with-fact .last .1 .1 .1 .0) (s .args .c)) (c .before .q .given .1) (with-fact .ensures))
 
 same-length-3 : tie.Need-same-length-3
 same-length-3 c = search needs
@@ -122,10 +122,10 @@ same-length-4 c = search needs
 
 returns-7 : tie.Need-returns-7
 returns-7 c =
-    let s = c .before .before .before .before .before .before .before .before .before .before .before .before .before .before .before .before .before .before .before in
-    let f = c .before .before .before .before .before .before .before .before .before .before .before .f in
+    let s = c .before .before .before .before .before .before .before .before .before .before .before .before .before .before .before .before .before .before .before .before in
+    let f = c .before .before .before .before .before .before .before .before .before .before .before .before .f in
     let with-fact = c .before .before .before .before .before .before .before .with-fact in
-    taken-fact (s .args .facts .now) (s .args .query .now) (s .args .a) (s .args .e) (s .pre .2) (s .pre .3) (f .given .0 .0) (within (c .before .before .before .before .before .before .before .before .before .before .before .before .before) _ (f .given .1)) (role-is (c .before .before .before .before .before .before .before .before .before .before .before .before .before) _ (f .given .1)) (s .args .relations .now) (with-fact .last .1 .1 .0) (s .args .universe .now) (with-fact .last .1 .1 .1 .0) (s .args .c) (c .before .d .given .0 .0) (subst (FactTaken (s .args .facts .now) (s .args .query .now) (s .args .a) (f .given .0 .0) (s .args .relations .now) (with-fact .last .1 .1 .0) (s .args .universe .now) (with-fact .last .1 .1 .1 .0) (s .args .c)) (c .before .d .given .1) (with-fact .ensures))
+    taken-fact (s .args .facts .now) (s .args .query .now) (s .args .a) (s .args .e) (s .pre .2) (s .pre .3) (f .given .0 .0) (within (c .before .before .before .before .before .before .before .before .before .before .before .before .before .before) _ (f .given .1)) (role-is (c .before .before .before .before .before .before .before .before .before .before .before .before .before .before) _ (f .given .1)) (s .args .relations .now) (with-fact .last .1 .1 .0) (s .args .universe .now) (with-fact .last .1 .1 .1 .0) (s .args .c) (c .before .d .given .0 .0) (subst (FactTaken (s .args .facts .now) (s .args .query .now) (s .args .a) (f .given .0 .0) (s .args .relations .now) (with-fact .last .1 .1 .0) (s .args .universe .now) (with-fact .last .1 .1 .1 .0) (s .args .c)) (c .before .d .given .1) (with-fact .ensures))
 
 pub take-line-spec : {M : Type 1} → statement M
 take-line-spec =
@@ -139,9 +139,9 @@ take-line-spec =
     enum-told-2
     enum-told-3
     enum-known-p
-    add-t20
+    add-t21
     enum-known-p-2
-    add-t22
+    add-t23
     enum-known-f
     with-fact-requires
     enum-known-q

@@ -10,10 +10,10 @@ use Rattle.parts.proofs.HeldLaws.{held-length}
 use Rattle.facts.proofs.UseLaws.{within-item, Entering, entering-start, entering-end, entering-full, entering-next, entering-ascending}
 
 abbrev Inv-loop : tie.InvT-loop
-Inv-loop facts query universe₀ n a f arity count₀ i₀ universe count i = (length universe ≡ length universe₀) × (i ≤ arity) × Entering facts query a f universe₀ n universe count i
+Inv-loop facts query universe₀ hints₀ n a f arity count₀ i₀ universe hints count i = (length universe ≡ length universe₀) × (i ≤ arity) × Entering facts query a f universe₀ n universe count i
 
 abbrev μ-loop : tie.MeasureT-loop
-μ-loop facts query universe₀ n a f arity count₀ i₀ universe count i = arity - i
+μ-loop facts query universe₀ hints₀ n a f arity count₀ i₀ universe hints count i = arity - i
 
 loop-holds : tie.Need-loop-holds Inv-loop μ-loop
 loop-holds c = (refl, omega arith, entering-start (now (c .before .before .before .args .facts)) (now (c .before .before .before .args .query)) (c .before .before .before .args .a) (c .before .before .before .args .f) (now (c .before .before .before .args .universe)) (c .before .before .before .args .n) (c .before .before .before .pre .0))
@@ -22,28 +22,28 @@ item-at-requires : tie.Need-item-at-requires Inv-loop μ-loop
 item-at-requires c κs = search needs
 
 element-word-requires : tie.Need-element-word-requires Inv-loop μ-loop
-element-word-requires c κs = let w = within-item _ _ (c .before .before .before .loop .i) (c .before .before .before .before .before .before .before .pre .3) in let e = c .before .item-at .ensures in (omega arith, rw e (omega (arith, w .place)), rw e (w .len))
+element-word-requires c κs = let w = within-item _ _ (c .before .before .before .before .loop .i) (c .before .before .before .before .before .before .before .before .pre .3) in let e = c .before .before .item-at .ensures in (omega arith, rw e (omega (arith, w .place)), rw e (w .len))
 
-enter-again-requires : tie.Need-enter-again-requires Inv-loop μ-loop
-enter-again-requires c κs =
-    let l = c .before .before .before .before .loop in
-    (omega (arith, l .inv .2 .held .room, l .inv .0), let s = c .before .before .before .before .before .before .before .before in entering-ascending (s .args .facts .now) (s .args .query .now) (s .args .a) (s .args .f) (s .args .universe .now) (s .args .n) (l .universe) (l .count) (l .i) (l .inv .2) (s .pre .4))
+enter-hinted-requires : tie.Need-enter-hinted-requires Inv-loop μ-loop
+enter-hinted-requires c κs =
+    let l = c .before .before .before .before .before .loop in
+    (omega (arith, l .inv .2 .held .room, l .inv .0), let s = c .before .before .before .before .before .before .before .before .before in entering-ascending (s .args .facts .now) (s .args .query .now) (s .args .a) (s .args .f) (s .args .universe .now) (s .args .n) (l .universe) (l .count) (l .i) (l .inv .2) (s .pre .4))
 
 enum-told : tie.Need-enum-told Inv-loop μ-loop
 enum-told c = search needs
 
-add-t17 : tie.Need-add-t17 Inv-loop μ-loop
-add-t17 c = let w = within-item _ _ (c .before .before .before .before .before .before .before .before .before .before .loop .i) (c .before .before .before .before .before .before .before .before .before .before .before .before .before .before .pre .3) in let e = c .before .before .before .before .before .before .before .before .item-at .ensures in rw e (omega (arith, w .place))
+add-t19 : tie.Need-add-t19 Inv-loop μ-loop
+add-t19 c = let w = within-item _ _ (c .before .before .before .before .before .before .before .before .before .before .before .loop .i) (c .before .before .before .before .before .before .before .before .before .before .before .before .before .before .before .pre .3) in let e = c .before .before .before .before .before .before .before .before .before .item-at .ensures in rw e (omega (arith, w .place))
 
 same-length : tie.Need-same-length Inv-loop μ-loop
 same-length c = search needs
 
 returns : tie.Need-returns Inv-loop μ-loop
 returns c =
-    let s = c .before .before .before .before .before .before .before .before .before .before .before .before .before .before in
-    let l = c .before .before .before .before .before .before .before .before .before .before .loop in
-    let item-at = c .before .before .before .before .before .before .before .before .item-at in
-    rw (item-at .ensures) (entering-full (s .args .facts .now) (s .args .query .now) (s .args .a) (s .args .f) (s .args .universe .now) (s .args .n) (l .universe) (l .count) (l .i) (l .inv .2) (s .pre .3 .arity) (c .before .before .before .before .before .before .before .before .before .loop-test .taken) (within-item _ _ (l .i) (s .pre .3) .len) (sym (c .before .enum-told .given .1) ∙ c .before .before .before .before .before .enter-again .ensures .0 ∙ rw (c .before .before .before .before .before .before .element-word .ensures, item-at .ensures)))
+    let s = c .before .before .before .before .before .before .before .before .before .before .before .before .before .before .before in
+    let l = c .before .before .before .before .before .before .before .before .before .before .before .loop in
+    let item-at = c .before .before .before .before .before .before .before .before .before .item-at in
+    rw (item-at .ensures) (entering-full (s .args .facts .now) (s .args .query .now) (s .args .a) (s .args .f) (s .args .universe .now) (s .args .n) (l .universe) (l .count) (l .i) (l .inv .2) (s .pre .3 .arity) (c .before .before .before .before .before .before .before .before .before .before .loop-test .taken) (within-item _ _ (l .i) (s .pre .3) .len) (sym (c .before .enum-told .given .1) ∙ c .before .before .before .before .before .enter-hinted .ensures .0 ∙ rw (c .before .before .before .before .before .before .element-word .ensures, item-at .ensures)))
 
 enum-known-m : tie.Need-enum-known-m Inv-loop μ-loop
 enum-known-m c = search needs
@@ -56,12 +56,12 @@ loop-less c = search needs
 
 loop-again : tie.Need-loop-again Inv-loop μ-loop
 loop-again c =
-    let s = c .before .before .before .before .before .before .before .before .before .before .before .before .before .before in
-    let l = c .before .before .before .before .before .before .before .before .before .before .loop in
-    let item-at = c .before .before .before .before .before .before .before .before .item-at in
+    let s = c .before .before .before .before .before .before .before .before .before .before .before .before .before .before .before in
+    let l = c .before .before .before .before .before .before .before .before .before .before .before .loop in
+    let item-at = c .before .before .before .before .before .before .before .before .before .item-at in
     let element-word = c .before .before .before .before .before .before .element-word in
-    let enter-again = c .before .before .before .before .before .enter-again in
-    let g = entering-next (s .args .facts .now) (s .args .query .now) (s .args .a) (s .args .f) (s .args .universe .now) (s .args .n) (l .universe) (l .count) (l .i) (l .inv .2) (s .pre .3 .arity) (c .before .before .before .before .before .before .before .before .before .loop-test .taken) (within-item _ _ (l .i) (s .pre .3) .len) _ _ (enter-again .ensures .1 ∙ rw (element-word .ensures, item-at .ensures)) (sym (c .before .m .given .1) ∙ enter-again .ensures .0 ∙ rw (element-word .ensures, item-at .ensures)) in (held-length (g .held), omega arith, g)
+    let enter-hinted = c .before .before .before .before .before .enter-hinted in
+    let g = entering-next (s .args .facts .now) (s .args .query .now) (s .args .a) (s .args .f) (s .args .universe .now) (s .args .n) (l .universe) (l .count) (l .i) (l .inv .2) (s .pre .3 .arity) (c .before .before .before .before .before .before .before .before .before .before .loop-test .taken) (within-item _ _ (l .i) (s .pre .3) .len) _ _ (enter-hinted .ensures .1 ∙ rw (element-word .ensures, item-at .ensures)) (sym (c .before .m .given .1) ∙ enter-hinted .ensures .0 ∙ rw (element-word .ensures, item-at .ensures)) in (held-length (g .held), omega (arith, c .before .before .before .before .before .before .before .before .before .before .loop-test .taken), g)
 
 same-length-2 : tie.Need-same-length-2 Inv-loop μ-loop
 same-length-2 c = search needs
@@ -80,9 +80,9 @@ use-elements-spec =
     loop-holds
     item-at-requires
     element-word-requires
-    enter-again-requires
+    enter-hinted-requires
     enum-told
-    add-t17
+    add-t19
     same-length
     returns
     enum-known-m

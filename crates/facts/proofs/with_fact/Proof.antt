@@ -20,9 +20,9 @@ relation-used c u told =
     (subst (RelationUsed (a .facts .now) (a .query .now) (c .before .packed .result) (a .relations .now) new (a .c .relations)) told (c .use-relation .ensures))
 
 universe-used : (c : tie.After-use-elements) (u : ElementsUsed) → c .use-elements .result ≡ u
-    → UniverseUsed (c .before .before .before .before .before .before .before .before .before .before .before .before .before .before .args .facts .now) (c .before .before .before .before .before .before .before .before .before .before .before .before .before .before .args .query .now) (c .before .before .before .before .before .before .before .before .before .before .before .before .before .before .args .a) (c .before .before .before .before .before .before .before .before .before .before .before .before .before .before .args .f) (c .before .before .before .before .before .before .before .before .before .before .before .before .before .before .args .universe .now) (c .use-elements .last .1 .1 .0) (c .before .before .before .before .before .before .before .before .before .before .before .before .before .before .args .c .elements) u
+    → UniverseUsed (c .before .before .before .before .before .before .before .before .before .before .before .before .before .before .before .args .facts .now) (c .before .before .before .before .before .before .before .before .before .before .before .before .before .before .before .args .query .now) (c .before .before .before .before .before .before .before .before .before .before .before .before .before .before .before .args .a) (c .before .before .before .before .before .before .before .before .before .before .before .before .before .before .before .args .f) (c .before .before .before .before .before .before .before .before .before .before .before .before .before .before .before .args .universe .now) (c .use-elements .last .1 .1 .0) (c .before .before .before .before .before .before .before .before .before .before .before .before .before .before .before .args .c .elements) u
 universe-used c u told =
-    let a = c .before .before .before .before .before .before .before .before .before .before .before .before .before .before .args in
+    let a = c .before .before .before .before .before .before .before .before .before .before .before .before .before .before .before .args in
     subst (UniverseUsed (a .facts .now) (a .query .now) (a .a) (a .f) (a .universe .now) (c .use-elements .last .1 .1 .0) (a .c .elements)) told (c .use-elements .ensures)
 
 packed-requires : tie.Need-packed-requires
@@ -76,9 +76,9 @@ same-length-4 c = search needs
 
 returns-3 : tie.Need-returns-3
 returns-3 c =
-    let s = c .before .before .before .before .before .before .before .before .before .before .before .before .before .before .before .before .before .before .before in
-    let r = c .before .before .before .before .before .before .before .before .r in
-    taken-many (s .args .facts .now) (s .args .query .now) (s .args .a) (s .args .f) (s .pre .4 .arity) (s .pre .4 .name) (s .args .relations .now) (s .args .universe .now) (s .args .c) (c .before .before .before .before .before .before .before .before .before .before .before .before .use-relation .last .1 .1 .0) (c .before .before .before .before .before .use-elements .last .1 .1 .0) (r .given .0 .0) (relation-used (c .before .before .before .before .before .before .before .before .before .before .before .before) _ (r .given .1)) (c .before .p .given .0 .0) (universe-used (c .before .before .before .before .before) _ (c .before .p .given .1))
+    let s = c .before .before .before .before .before .before .before .before .before .before .before .before .before .before .before .before .before .before .before .before in
+    let r = c .before .before .before .before .before .before .before .before .before .r in
+    taken-many (s .args .facts .now) (s .args .query .now) (s .args .a) (s .args .f) (s .pre .4 .arity) (s .pre .4 .name) (s .args .relations .now) (s .args .universe .now) (s .args .c) (c .before .before .before .before .before .before .before .before .before .before .before .before .before .use-relation .last .1 .1 .0) (c .before .before .before .before .before .use-elements .last .1 .1 .0) (r .given .0 .0) (relation-used (c .before .before .before .before .before .before .before .before .before .before .before .before .before) _ (r .given .1)) (c .before .p .given .0 .0) (universe-used (c .before .before .before .before .before) _ (c .before .p .given .1))
 
 same-length-5 : tie.Need-same-length-5
 same-length-5 c = search needs
@@ -88,9 +88,9 @@ same-length-6 c = search needs
 
 returns-4 : tie.Need-returns-4
 returns-4 c =
-    let s = c .before .before .before .before .before .before .before .before .before .before .before .before .before .before .before .before .before .before .before in
-    let r = c .before .before .before .before .before .before .before .before .r in
-    taken-fits (s .args .facts .now) (s .args .query .now) (s .args .a) (s .args .f) (s .pre .4 .arity) (s .pre .4 .name) (s .args .relations .now) (s .args .universe .now) (s .args .c) (c .before .before .before .before .before .before .before .before .before .before .before .before .use-relation .last .1 .1 .0) (c .before .before .before .before .before .use-elements .last .1 .1 .0) (r .given .0 .0) (relation-used (c .before .before .before .before .before .before .before .before .before .before .before .before) _ (r .given .1)) (c .before .e .given .0 .0) (universe-used (c .before .before .before .before .before) _ (c .before .e .given .1))
+    let s = c .before .before .before .before .before .before .before .before .before .before .before .before .before .before .before .before .before .before .before .before in
+    let r = c .before .before .before .before .before .before .before .before .before .r in
+    taken-fits (s .args .facts .now) (s .args .query .now) (s .args .a) (s .args .f) (s .pre .4 .arity) (s .pre .4 .name) (s .args .relations .now) (s .args .universe .now) (s .args .c) (c .before .before .before .before .before .before .before .before .before .before .before .before .before .use-relation .last .1 .1 .0) (c .before .before .before .before .before .use-elements .last .1 .1 .0) (r .given .0 .0) (relation-used (c .before .before .before .before .before .before .before .before .before .before .before .before .before) _ (r .given .1)) (c .before .e .given .0 .0) (universe-used (c .before .before .before .before .before) _ (c .before .e .given .1))
 
 pub with-fact-spec : {M : Type 1} → statement M
 with-fact-spec =
