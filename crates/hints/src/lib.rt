@@ -35,13 +35,13 @@ fn mark(t: &[u8]) -> usize
     h
 }
 
-// Puts the hint k into the first free one of the 8 places from h on; 255 is free.
+// Puts the hint k into the first free place from h on; 255 is free.
 fn note(hints: &mut [u8; 256], h: usize, k: u8)
     requires { ⌜ h < 256 ⌝ }
     ensures { λ _. ⌜ length (now (hints .exit)) ≡ length (now (hints .entry)) ⌝ }
 {
     let mut j = h;
-    while j < h + 8 {
+    while j < h + 256 {
         let i = j % 256;
         if hints[i] == 255 {
             hints[i] = k;
@@ -65,7 +65,7 @@ pub fn hints_of<'a>(facts: &'a [u8], query: &'a [u8], parts: &[usize]) -> [u8; 2
     hints
 }
 
-// The index of a part that has the text t, by the hints from h on; the number of parts, if they propose none that has.
+// The index of a part that has the text t, by the hints from h on to a free one; at least the number of parts, if none of them has it.
 fn proposed<'a>(
     facts: &'a [u8],
     query: &'a [u8],
@@ -78,13 +78,14 @@ fn proposed<'a>(
     ensures { λ r. ⌜ (r < length (now (parts .entry)) → same (now (t .entry)) (text-of (now (facts .entry)) (now (query .entry)) (getD (now (parts .entry)) r 0)) ≡ true) ⌝ }
 {
     let mut j = h;
-    while j < h + 8 {
+    while j < h + 256 {
         let k = wide(hints[j % 256]);
-        if k < parts.len() {
-            let w = parts[k];
-            if same(t, text_of(facts, query, w)) {
-                return k;
-            }
+        if parts.len() <= k {
+            return k;
+        }
+        let w = parts[k];
+        if same(t, text_of(facts, query, w)) {
+            return k;
         }
         j += 1;
     }
@@ -169,7 +170,7 @@ fn hinted_place<'a>(
     place
 }
 
-// As `enter_again`, in fewer steps where the hints propose the place.
+// As `enter_part`, in few steps, where the words are known to stand in byte order: the elements of facts are many.
 pub fn enter_hinted<'a>(
     facts: &'a [u8],
     query: &'a [u8],

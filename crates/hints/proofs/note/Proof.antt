@@ -7,10 +7,10 @@ use native.Mathlib.Omega.{arith}
 use lib.ListN.{length, length-set}
 
 abbrev Inv-loop : tie.InvT-loop
-Inv-loop hints₀ h k j₀ hints j = (length hints ≡ length hints₀) × (h ≤ j) × (j ≤ h + 8)
+Inv-loop hints₀ h k j₀ hints j = (length hints ≡ length hints₀) × (h ≤ j) × (j ≤ h + 256)
 
 abbrev μ-loop : tie.MeasureT-loop
-μ-loop hints₀ h k j₀ hints j = h + 8 - j
+μ-loop hints₀ h k j₀ hints j = h + 256 - j
 
 loop-holds : tie.Need-loop-holds Inv-loop μ-loop
 loop-holds c = (search needs, search needs, search needs)
