@@ -8,10 +8,11 @@ use native.Mathlib.Nat.{add-assoc}
 use native.Mathlib.Omega.{arith}
 use lib.Dec.{eqb}
 use lib.ListN.{length, getD, take, drop, drop-of-length-le, length-drop}
-use lib.Seq.{drop-cons, drop-drop}
+use lib.Seq.{drop-cons, drop-drop, getD-drop}
 use borrow.Author.Tests.{eq-eqb, ne-eqb, le-leb, lt-leb, eqb-true, eqb-false}
 use Rattle.definition.specs.Text.{Text, span, starts, some-of, is-blank}
 use Rattle.definition.specs.Facts.{none, one, wrong, is-inside, word, quoted-word, bare-word}
+use Rattle.texts.proofs.RunLaws.{span-within}
 use Rattle.facts.specs.Lines.{element-of, next-word}
 
 abbrev pub no-quote : ℕ → Bool
@@ -75,6 +76,60 @@ no-quotes (suc n) (x ∷ xs) h = go (eqb x 34) refl h (no-quotes n xs)
     go true e h ih = absurd (omega arith)
     go false e h ih = rw (ne-eqb 34 x (λ d. eqb-false x 34 e (sym d))) (ih (omega arith))
 
+-- the run up to a quote or a blank
+abbrev pub bare : ℕ → Bool
+bare y = not (eqb y 34) && is-inside y
+
+bare-inside : (xs : Text) → span bare xs ≤ span is-inside xs
+unfolding span
+bare-inside [] = omega arith
+bare-inside (x ∷ xs) = go (eqb x 34) (is-blank x) (bare-inside xs)
+  where
+    go : (a c : Bool) → span bare xs ≤ span is-inside xs → cond (not a && not c) (suc (span bare xs)) 0 ≤ cond (not c) (suc (span is-inside xs)) 0
+    go true true ih = omega arith
+    go true false ih = omega arith
+    go false true ih = omega arith
+    go false false ih = omega arith
+
+bare-no-quote : (xs : Text) → span bare xs ≤ span no-quote xs
+unfolding span
+bare-no-quote [] = omega arith
+bare-no-quote (x ∷ xs) = go (eqb x 34) (is-blank x) (bare-no-quote xs)
+  where
+    go : (a c : Bool) → span bare xs ≤ span no-quote xs → cond (not a && not c) (suc (span bare xs)) 0 ≤ cond (not a) (suc (span no-quote xs)) 0
+    go true true ih = omega arith
+    go true false ih = omega arith
+    go false true ih = omega arith
+    go false false ih = omega arith
+
+inside-quote : (x : ℕ) → x ≡ 34 → is-blank x ≡ false
+unfolding is-blank
+inside-quote x e = rw e
+
+-- at a quote it ends before the element does, else with it
+bare-stop : (xs : Text) → getD xs (span bare xs) 0 ≡ 34 → span no-quote xs < span is-inside xs
+unfolding span
+bare-stop [] h = absurd (omega arith)
+bare-stop (x ∷ xs) h = go (eqb x 34) refl (is-blank x) refl h (bare-stop xs)
+  where
+    go : (a : Bool) → eqb x 34 ≡ a → (c : Bool) → is-blank x ≡ c → getD (x ∷ xs) (cond (not a && not c) (suc (span bare xs)) 0) 0 ≡ 34 → (getD xs (span bare xs) 0 ≡ 34 → span no-quote xs < span is-inside xs)
+        → cond (not a) (suc (span no-quote xs)) 0 < cond (not c) (suc (span is-inside xs)) 0
+    go true e true f h ih = let z : _≡_ {A = Bool} true false = sym f ∙ inside-quote x (eqb-true x 34 e) in let y : _≡_ {A = ℕ} 0 1 = cc in absurd (omega arith)
+    go true e false f h ih = omega arith
+    go false e true f h ih = absurd (eqb-false x 34 e h)
+    go false e false f h ih = let l = ih h in omega arith
+
+bare-end : (xs : Text) → (getD xs (span bare xs) 0 ≡ 34 → ⊥) → span is-inside xs ≡ span bare xs
+unfolding span
+bare-end [] h = refl
+bare-end (x ∷ xs) h = go (eqb x 34) refl (is-blank x) h (bare-end xs)
+  where
+    go : (a : Bool) → eqb x 34 ≡ a → (c : Bool) → (getD (x ∷ xs) (cond (not a && not c) (suc (span bare xs)) 0) 0 ≡ 34 → ⊥) → ((getD xs (span bare xs) 0 ≡ 34 → ⊥) → span is-inside xs ≡ span bare xs)
+        → cond (not c) (suc (span is-inside xs)) 0 ≡ cond (not a && not c) (suc (span bare xs)) 0
+    go true e c h ih = absurd (h (eqb-true x 34 e))
+    go false e true h ih = refl
+    go false e false h ih = ap suc (ih h)
+
 module _ (i : ℕ) (xs : Text) where
   bare-long : 32 < span is-inside xs → bare-word i xs ≡ wrong i
   unfolding bare-word
@@ -119,24 +174,28 @@ module _ (l : Text) (b e : ℕ) (h : b < length l) where
           ∙ quoted-good (i + b) (drop (b + 1) l) (rw (run, length-drop) (omega arith)) (omega (arith, run)) (rw rest (omega (arith, s)))
           ∙ rw run
 
-  module _ (q : getD l b 0 ≡ 34 → ⊥) (r : e ≡ b + span is-inside (drop b l)) where
+  module _ (q : getD l b 0 ≡ 34 → ⊥) (r : e ≡ b + span bare (drop b l)) where
     is-bare : (i : ℕ) → word (i + b) (drop b l) ≡ bare-word (i + b) (drop b l)
     unfolding word
     is-bare i = rw (drop-cons l b 0, ne-eqb (getD l b 0) 34 q)
 
-    run-bare : span is-inside (drop b l) ≡ e - b
+    run-bare : span bare (drop b l) ≡ e - b
     run-bare = omega (arith, r)
 
+    end : getD (drop b l) (span bare (drop b l)) 0 ≡ getD l e 0
+    end = getD-drop b l (span bare (drop b l)) 0 ∙ ap (λ (k : ℕ). getD l k 0) (sym r)
+
     pub bare-long-at : 32 < e - b → (i : ℕ) → word (i + b) (drop b l) ≡ wrong (i + b)
-    bare-long-at k i = is-bare i ∙ bare-long (i + b) (drop b l) (omega (arith, run-bare))
+    bare-long-at k i = is-bare i ∙ bare-long (i + b) (drop b l) (omega (arith, run-bare, bare-inside (drop b l)))
 
-    module _ (x : ℕ) (s : x ≡ b + span no-quote (drop b l)) where
-      pub bare-quote-at : e ≤ length l → x < e → (i : ℕ) → word (i + b) (drop b l) ≡ wrong (i + b)
-      bare-quote-at k m i = is-bare i ∙ bare-quote (i + b) (drop b l) (omega (arith, run-bare, s)) (rw length-drop (omega (arith, run-bare)))
+    pub bare-quote-at : getD l e 0 ≡ 34 → (i : ℕ) → word (i + b) (drop b l) ≡ wrong (i + b)
+    bare-quote-at k i = is-bare i ∙ bare-quote (i + b) (drop b l) (bare-stop (drop b l) (end ∙ k)) (span-within is-inside (drop b l))
 
-      pub bare-good-at : e - b ≤ 32 → e ≤ x → (i : ℕ)
-          → word (i + b) (drop b l) ≡ one (element-of l i (record { place = b; len = e - b; quoted = false })) (e - b)
-      bare-good-at k m i = is-bare i ∙ bare-good (i + b) (drop b l) (omega (arith, run-bare)) (omega (arith, run-bare, s)) ∙ rw run-bare
+    pub bare-good-at : e - b ≤ 32 → (getD l e 0 ≡ 34 → ⊥) → (i : ℕ)
+        → word (i + b) (drop b l) ≡ one (element-of l i (record { place = b; len = e - b; quoted = false })) (e - b)
+    bare-good-at k m i =
+        let f : span is-inside (drop b l) ≡ span bare (drop b l) = bare-end (drop b l) (λ d. m (sym end ∙ d)) in
+        is-bare i ∙ bare-good (i + b) (drop b l) (omega (arith, run-bare, f)) (omega (arith, f, bare-no-quote (drop b l))) ∙ rw (f, run-bare)
 
 -- past blanks
 module _ (l : Text) (j b : ℕ) (within : j ≤ length l) (r : b ≡ j + span is-blank (drop j l)) where

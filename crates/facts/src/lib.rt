@@ -82,18 +82,28 @@ fn quoted_at(l: &[u8], b: usize) -> Next
     )
 }
 
-// The bare element that starts at b.
+// The byte at i; 0 past the end.
+fn byte_at(l: &[u8], i: usize) -> u8
+    ensures { λ r. ⌜ r ≡ getD (now (l .entry)) i 0 ⌝ }
+{
+    if l.len() <= i {
+        return 0;
+    }
+    l[i]
+}
+
+// The bare element that starts at b: it ends at a blank or the line's end, and a quote makes it malformed.
 fn bare_at(l: &[u8], b: usize) -> Next
     requires { ⌜ b < length (now l) ⌝ }
     requires { ⌜ (getD (now l) b 0 ≡ 34 → ⊥) ⌝ }
     ensures value { λ r. ⌜ ((i : ℕ) → word (i + b) (drop b (now (l .entry))) ≡ word-of (now (l .entry)) i r) ⌝ }
     ensures within { λ r. ⌜ NextWithin (length (now (l .entry))) r ⌝ }
 {
-    let e = run_end(l, b, Class::Inside);
+    let e = run_end(l, b, Class::Bare);
     if 32 < e - b {
         return Next::Wrong(b);
     }
-    if run_end(l, b, Class::NoQuote) < e {
+    if byte_at(l, e) == 34 {
         return Next::Wrong(b);
     }
     Next::Found(

@@ -5,7 +5,7 @@ use lib.Dec.{eqb}
 use Rattle.definition.specs.Text.{is-part, is-legal, is-blank}
 use Rattle.definition.specs.Facts.{is-inside}
 use Rattle.texts.specs.declared.Class.{Class}
-use Rattle.texts.specs.declared.Class.the-variants.{Blank, Inside, Part, Legal, NoQuote, NoEnd, InString}
+use Rattle.texts.specs.declared.Class.the-variants.{Blank, Inside, Part, Legal, NoQuote, NoEnd, InString, Bare}
 
 abbrev pub is-of : Class → ℕ → Bool
 is-of Blank = is-blank
@@ -15,3 +15,4 @@ is-of Legal = is-legal
 is-of NoQuote = λ y. not (eqb y 34)
 is-of NoEnd = λ y. not (eqb y 10)
 is-of InString = λ y. not (eqb y 34) && not (eqb y 10)
+is-of Bare = λ y. not (eqb y 34) && is-inside y

@@ -56,7 +56,7 @@ pub fn same(a: &[u8], b: &[u8]) -> bool
     true
 }
 
-// The classes of bytes that runs are made of. Inside: no blank. InString: neither a quote nor byte 10.
+// The classes of bytes that runs are made of. Inside: no blank. InString: neither a quote nor byte 10. Bare: neither a quote nor a blank.
 pub enum Class {
     Blank,
     Inside,
@@ -65,6 +65,7 @@ pub enum Class {
     NoQuote,
     NoEnd,
     InString,
+    Bare,
 }
 
 // "spaces or tabs"
@@ -139,6 +140,12 @@ pub fn of_class(b: u8, k: Class) -> bool
                 return false;
             }
             b != 10
+        }
+        Class::Bare => {
+            if b == 34 {
+                return false;
+            }
+            !is_blank(b)
         }
     }
 }

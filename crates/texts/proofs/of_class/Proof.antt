@@ -40,26 +40,38 @@ enum-told-7 c = search needs
 returns : tie.Need-returns
 returns c = simp (c .before .enum-told7 .given .1, eq-eqb _ _ (c .if1 .taken))
 
+enum-told-8 : tie.Need-enum-told-8
+enum-told-8 c = search needs
+
 returns-2 : tie.Need-returns-2
-returns-2 c = c .is-blank .ensures ∙ simp (c .before .enum-told .given .1)
+returns-2 c = simp (c .before .enum-told8 .given .1, eq-eqb _ _ (c .if2 .taken))
+
+is-blank-requires-3 : tie.Need-is-blank-requires-3
+is-blank-requires-3 c κs = search needs
 
 returns-3 : tie.Need-returns-3
-returns-3 c = simp (c .before .enum-told2 .given .1, c .is-blank2 .ensures)
+returns-3 c = c .is-blank .ensures ∙ simp (c .before .enum-told .given .1)
 
 returns-4 : tie.Need-returns-4
-returns-4 c = c .is-part .ensures ∙ simp (c .before .enum-told3 .given .1)
+returns-4 c = simp (c .before .enum-told2 .given .1, c .is-blank2 .ensures)
 
 returns-5 : tie.Need-returns-5
-returns-5 c = c .is-legal .ensures ∙ simp (c .before .enum-told4 .given .1)
+returns-5 c = c .is-part .ensures ∙ simp (c .before .enum-told3 .given .1)
 
 returns-6 : tie.Need-returns-6
-returns-6 c = simp (c .enum-told5 .given .1)
+returns-6 c = c .is-legal .ensures ∙ simp (c .before .enum-told4 .given .1)
 
 returns-7 : tie.Need-returns-7
-returns-7 c = simp (c .enum-told6 .given .1)
+returns-7 c = simp (c .enum-told5 .given .1)
 
 returns-8 : tie.Need-returns-8
-returns-8 c = simp (c .before .enum-told7 .given .1, ne-eqb _ _ (c .if1 .left))
+returns-8 c = simp (c .enum-told6 .given .1)
+
+returns-9 : tie.Need-returns-9
+returns-9 c = simp (c .before .enum-told7 .given .1, ne-eqb _ _ (c .if1 .left))
+
+returns-10 : tie.Need-returns-10
+returns-10 c = simp (c .before .before .enum-told8 .given .1, ne-eqb _ _ (c .before .if2 .left), c .is-blank3 .ensures)
 
 pub of-class-spec : {M : Type 1} → statement M
 of-class-spec =
@@ -77,10 +89,14 @@ of-class-spec =
     enum-told-6
     enum-told-7
     returns
+    enum-told-8
     returns-2
+    is-blank-requires-3
     returns-3
     returns-4
     returns-5
     returns-6
     returns-7
-    returns-8)
+    returns-8
+    returns-9
+    returns-10)
