@@ -3,7 +3,6 @@ use Rattle.hints.proofs.note.Tie as tie
 use borrow.Author.Needs.{needs}
 use Prim.Native.Nat.{_+_, _-_, _≤_}
 use mathlib.Core.Path.{_≡_}
-use native.Mathlib.Omega.{arith}
 use lib.ListN.{length, length-set}
 
 abbrev Inv-loop : tie.InvT-loop

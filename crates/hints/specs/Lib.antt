@@ -1,1 +1,0 @@
--- The contracts of this crate are in the words of `parts`.
