@@ -191,19 +191,3 @@ pub fn find_place<'a>(facts: &'a [u8], query: &'a [u8], parts: &[usize], v: usiz
     }
     Place::New(low)
 }
-
-// As `enter_part`, in few steps, where the words are known to stand in byte order: the elements of facts are many.
-pub fn enter_again<'a>(
-    facts: &'a [u8],
-    query: &'a [u8],
-    words: &mut [usize],
-    n: usize,
-    v: usize,
-) -> Entered
-    requires { ⌜ (n ≤ length (now words)) × Ascending (texts-of (now facts) (now query) (take n (now words))) ⌝ }
-    ensures value { λ r. ⌜ r ≡ count-in (enter (now (facts .entry)) (now (query .entry)) v (take n (now (words .entry)))) (now (words .entry)) ⌝ }
-    ensures words { λ _. ⌜ now (words .exit) ≡ in-front (enter (now (facts .entry)) (now (query .entry)) v (take n (now (words .entry)))) (now (words .entry)) ⌝ }
-{
-    let place = find_place(facts, query, &words[..n], v);
-    enter_at(words, n, v, place)
-}

@@ -10,8 +10,8 @@ ghost use Rattle.parts_test.specs.Counts.{count-of};
 ghost use Rattle.parts_test.specs.Texts.{facts, query, four, IsSet, count-after, words-after};
 use check::expect;
 use check::same;
+use hints::enter_hinted;
 use parts::Entered;
-use parts::enter_again;
 use parts::enter_part;
 use parts::index_of;
 use parts::packed;
@@ -72,14 +72,15 @@ fn count(e: Entered) -> usize
     }
 }
 
-// Enters v into the first two words, whose texts are looked at from the first on, or by halves; how many parts there are then.
+// Enters v into the first two words, whose texts are looked at from the first on, or, where no hint is known yet, by halves; how many parts there are then.
 fn enter(words: &mut [usize], v: usize, by_halves: bool) -> usize
     requires { ⌜ (2 ≤ length (now words)) × IsSet (now words) ⌝ }
     ensures count { λ r. ⌜ r ≡ count-after v (now (words .entry)) ⌝ }
     ensures words { λ _. ⌜ now (words .exit) ≡ words-after v (now (words .entry)) ⌝ }
 {
     if by_halves {
-        return count(enter_again(b"R C10 \"C2\"", b"C2 C1", words, 2, v));
+        let mut hints = [255u8; 256];
+        return count(enter_hinted(b"R C10 \"C2\"", b"C2 C1", words, 2, &mut hints, v));
     }
     count(enter_part(b"R C10 \"C2\"", b"C2 C1", words, 2, v))
 }

@@ -5,13 +5,13 @@ use Rattle.parts_test.specs.Counts.{count-of}
 use Rattle.parts_test.proofs.enter.Statement.{statement}
 use Rattle.parts_test.proofs.enter.Tie as tie
 
-enter-again-requires : tie.Need-enter-again-requires
+enter-hinted-requires : tie.Need-enter-hinted-requires
 unfolding everything
-enter-again-requires c κs = c .before .before .before .before .before .pre
+enter-hinted-requires c κs = c .before .before .before .before .before .before .pre
 
 returns : tie.Need-returns
 unfolding everything
-returns c = let f = c .before .before .before .enter-again in (c .count .ensures ∙ ap count-of (f .ensures .0), f .ensures .1)
+returns c = let f = c .before .before .before .enter-hinted in (c .count .ensures ∙ ap count-of (f .ensures .0), f .ensures .1)
 
 returns-2 : tie.Need-returns-2
 unfolding everything
@@ -23,7 +23,7 @@ enter-spec =
     (tie.spec
     (λ c. search needs)
     (λ c. search needs)
-    enter-again-requires
+    enter-hinted-requires
     (λ c κs. search needs)
     (λ c. search needs)
     returns
