@@ -110,6 +110,27 @@ pub holds-at : (u : ℕ) (ws : List ℕ) (t : Tuple) → holds u ws t ≡ bit (g
 unfolding holds
 holds-at u ws t = holds-place u ws 0 t
 
+word-snoc : (u w : ℕ) (t : Tuple) (a : ℕ) → word-at u w (t ++ (a ∷ [])) ≡ value u w t
+word-snoc u w [] a = refl
+word-snoc u w (x ∷ []) a = refl
+word-snoc u w (x ∷ y ∷ t) a = word-snoc u (u * w + x) (y ∷ t) a
+
+bit-snoc : (t : Tuple) (a : ℕ) → bit-at (t ++ (a ∷ [])) ≡ a
+bit-snoc [] a = refl
+bit-snoc (x ∷ []) a = refl
+bit-snoc (x ∷ y ∷ t) a = bit-snoc (y ∷ t) a
+
+-- and a word's bits by the tuples
+pub holds-row : (u n w b : ℕ) (ws : List ℕ) → w < table-words u n → b < width u n → holds u ws (digits u n (w * width u n + b)) ≡ bit (getD ws w 0) b
+unfolding digits table-words
+holds-row u zero w b ws h l = holds-at u ws [] ∙ ap₂ (λ (i j : ℕ). bit (getD ws i 0) j) (sym (lt-one h)) (sym (lt-one l))
+holds-row u (suc n) w b ws h l =
+    ap (holds u ws) (digits-snoc u n w b l)
+    ∙ holds-at u ws (digits u n w ++ (b ∷ []))
+    ∙ ap₂ (λ (i j : ℕ). bit (getD ws i 0) j)
+    (word-snoc u 0 (digits u n w) b ∙ value-digits u n w (subst (λ (k : ℕ). w < k) (words-pow u n) h))
+    (bit-snoc (digits u n w) b)
+
 -- words past the end are zero, and a tuple there is not added
 pub holds-past : (u : ℕ) (ws : List ℕ) (t : Tuple) → length ws ≤ word-at u 0 t → holds u ws t ≡ false
 holds-past u ws t h = holds-at u ws t ∙ ap (λ (w : ℕ). bit w (bit-at t)) (List·getD-eq-default ws 0 h) ∙ bit-none (bit-at t)
