@@ -270,7 +270,7 @@ width-at u zero h = absurd (h refl)
 width-at u (suc n) h = refl
 
 -- words that are zero are the table of no tuple
-none-of : (n : ℕ) → word n 0 (λ (b : ℕ). false) ≡ 0
+pub none-of : (n : ℕ) → word n 0 (λ (b : ℕ). false) ≡ 0
 none-of n = sym (word-ext n 0 (λ b. false) (pow-pos n) (λ i l. bit-none i))
 
 pub table-none : (u n : ℕ) → replicate (table-words u n) 0 ≡ table u n (λ t. false)
