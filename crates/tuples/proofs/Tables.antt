@@ -167,7 +167,7 @@ number-or-not a b = go (eqb a b) refl
     go false e = inr (eqb-false a b e)
 
 -- a row fits a word
-pub width-le : (u n : ℕ) → u ≤ 64 → width u n ≤ 64
+width-le : (u n : ℕ) → u ≤ 64 → width u n ≤ 64
 width-le u zero h = omega arith
 width-le u (suc n) h = h
 
@@ -257,10 +257,6 @@ sets-part l off n ws h e =
 pub length-with : (u : ℕ) (ws t : List ℕ) → length (with-tuple u ws t) ≡ length ws
 unfolding with-tuple
 length-with u ws t = length-set ws (word-at u 0 t) _
-
--- the number of the tuple at bit b of word w
-pub number-in : (u n w b : ℕ) → w < table-words u n → b < width u n → w * width u n + b < u ^ n
-number-in u n w b l m = rw (← count-tuples u n) (digits-lt l m)
 
 pub number-small : (u n i : ℕ) → u ≤ 64 → n ≤ 4 → i < u ^ n → i < 16777216
 number-small u n i h l m = lt-of-lt-of-le m (le-trans (pow-le-pow-left h n) (pow-le-pow-right (zero-lt-suc 63) l))
