@@ -1,6 +1,6 @@
 -- Bytes put one after the other.
-use Prim.Native.Nat.{ℕ, _+_, _<_, _≤_, min}
-use mathlib.Core.Path.{_≡_, refl, sym, ap, _∙_}
+use Prim.Native.Nat.{ℕ, _+_, _-_, _<_, _≤_, min}
+use mathlib.Core.Path.{_≡_, refl, sym, ap, ap₂, subst, _∙_}
 use mathlib.Core.Bool.{Bool, true, false, cond}
 use mathlib.Core.List.{List, [], _∷_, _++_}
 use mathlib.Core.Logic.{_⊎_, inl, inr, ⊎-elim}
@@ -8,12 +8,12 @@ use native.Mathlib.Nat.{add-zero, min-eq-left, min-eq-right, min-le-left, min-le
 use native.Mathlib.Omega.{arith}
 use borrow.Author.Tests.{leb-true, leb-false, le-leb, lt-leb}
 use lib.Dec.{leb}
-use lib.ListN.{length, set, length-append}
-use lib.Seq.{sets, length-sets, set-out}
-use Rattle.tuples.proofs.Stores.{sets-append, sets-out}
+use lib.ListN.{length, getD, set, take, drop, length-append, take-append-drop}
+use lib.Seq.{sets, length-sets, set-out, length-take-le, take-all}
+use Rattle.tuples.proofs.Stores.{sets-append, sets-more, sets-out}
 use Rattle.lines.specs.Put.{Put, Printed}
 
-le-or-lt : (a b : ℕ) → (a ≤ b) ⊎ (b < a)
+pub le-or-lt : (a b : ℕ) → (a ≤ b) ⊎ (b < a)
 le-or-lt a b = go (leb a b) refl
   where
     go : (t : Bool) → leb a b ≡ t → (a ≤ b) ⊎ (b < a)
@@ -49,6 +49,45 @@ put-past w out at b h = record { end = sym (min-eq-right (omega arith)); bytes =
     go : (t : Bool) → out ≡ cond t (set out at b) out
     go true = sym (set-out out at b h)
     go false = refl
+
+-- a text
+pub put-written : (w : Bool) (out : List ℕ) (at : ℕ) (x : List ℕ) (r : ℕ) (out₁ : List ℕ) → w ≡ true → r ≡ min (at + length x) (length out + 1) → out₁ ≡ sets out at x → Put w out at x r out₁
+put-written w out at x r out₁ h e f = record { end = e; bytes = f ∙ ap (λ (b : Bool). cond b (sets out at x) out) (sym h) }
+
+-- a text copied up to place p
+pub copy-none : (out s : List ℕ) (at : ℕ) → out ≡ sets out at (take (at - at) s)
+copy-none out s at = ap (λ (k : ℕ). sets out at (take k s)) none
+  where
+    none : 0 ≡ at - at
+    none = omega arith
+
+module _ (out o s : List ℕ) (at p : ℕ) (l : at ≤ p) (e : o ≡ sets out at (take (p - at) s)) where
+  there : at + (p - at) ≡ p
+  there = omega arith
+
+  pub copy-more : p < at + length s → set o p (getD s (p - at) 0) ≡ sets out at (take (p + 1 - at) s)
+  copy-more h =
+      ap₂ (λ (k : List ℕ) (i : ℕ). set k i (getD s (p - at) 0)) e (sym there)
+      ∙ sets-more out at s (p - at) 0 (omega arith)
+      ∙ ap (λ (i : ℕ). sets out at (take i s)) next
+    where
+      next : p - at + 1 ≡ p + 1 - at
+      next = omega arith
+
+  pub copy-all : min (at + length s) (length out) ≤ p → o ≡ sets out at s
+  copy-all h = ⊎-elim (λ k. e ∙ ap (sets out at) (take-all (p - at) s k)) (λ k. e ∙ cut k) (le-or-lt (length s) (p - at))
+    where
+      past : p - at < length s → length out ≤ p
+      past k = ⊎-elim (λ m. absurd (low m k)) (λ m. subst (λ (i : ℕ). i ≤ p) (min-eq-right (omega arith)) h) (le-or-lt (at + length s) (length out))
+        where
+          low : at + length s ≤ length out → p - at < length s → ⊥
+          low m k = omega (arith, subst (λ (i : ℕ). i ≤ p) (min-eq-left m) h)
+
+      cut : p - at < length s → sets out at (take (p - at) s) ≡ sets out at s
+      cut k =
+          sym (sets-out (drop (p - at) s) (sets out at (take (p - at) s)) (at + length (take (p - at) s)) (omega (arith, past k, length-sets out at (take (p - at) s), length-take-le (p - at) s (omega arith))))
+          ∙ sets-append (take (p - at) s) (drop (p - at) s) out at
+          ∙ ap (sets out at) (take-append-drop (p - at) s)
 
 -- clipped places add up
 clip-add : (a b c r s : ℕ) → r ≡ min a c → s ≡ min (r + b) c → s ≡ min (a + b) c

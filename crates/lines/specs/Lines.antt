@@ -1,5 +1,5 @@
 -- The line of a tuple.
-use Prim.Native.Nat.{ℕ}
+use Prim.Native.Nat.{ℕ, _+_, _/_, _%_}
 use mathlib.Core.List.{List, [], _∷_, _++_, map}
 use lib.Dec.{eqb}
 use lib.ListN.{getD}
@@ -23,6 +23,10 @@ element-at T a = text-of (T .facts) (T .query) (getD (T .places) a 0)
 -- "An element is printed in quotes if some fact quoted it"
 unfoldable pub shown-at : Texts → ℕ → Text
 shown-at T a = if eqb (tag-of (getD (T .places) a 0)) 1 then (34 ∷ element-at T a ++ (34 ∷ [])) else (element-at T a)
+
+-- the most bytes that the element with the place w takes: fewer where the facts or the query end before its part does
+abbrev pub shown-most : ℕ → ℕ
+shown-most w = if eqb (tag-of w) 1 then (w / 8 % 64 + 2) else (w / 8 % 64)
 
 -- an element after a space
 abbrev pub after : Texts → ℕ → Text

@@ -1,10 +1,11 @@
 // The line of a tuple put to a buffer, or only counted. A place past the buffer's end counts as the one just past it, so no count overflows.
 ghost use mathlib.Core.Path.{_≡_};
 ghost use mathlib.Core.List.{[], _∷_};
-ghost use Prim.Native.Nat.{_+_, _-_, _≤_};
+ghost use Prim.Native.Nat.{ℕ, _+_, _-_, _≤_, min, max};
 ghost use lib.ListN.{length, getD, take, drop};
-ghost use Rattle.definition.specs.Text.{gather};
-ghost use Rattle.lines.specs.Lines.{texts, element-at, shown-at, after, line-of};
+ghost use lib.Seq.{sets};
+ghost use Rattle.definition.specs.Text.{Text, gather};
+ghost use Rattle.lines.specs.Lines.{texts, element-at, shown-at, shown-most, after, line-of};
 ghost use Rattle.lines.specs.Put.{Put};
 use parts::text_of;
 
@@ -23,17 +24,43 @@ pub fn put(out: &mut [u8], at: usize, b: u8, write: bool) -> usize
     at + 1
 }
 
-// Puts a text.
+// The smaller and the larger of two numbers.
+fn smaller(a: usize, b: usize) -> usize
+    ensures { λ r. ⌜ r ≡ min a b ⌝ }
+{
+    if a < b { a } else { b }
+}
+
+fn larger(a: usize, b: usize) -> usize
+    ensures { λ r. ⌜ r ≡ max a b ⌝ }
+{
+    if a < b { b } else { a }
+}
+
+// Writes a text from place `at` on, as far as there is room.
+fn copy(out: &mut [u8], at: usize, s: &[u8])
+    requires { ⌜ at ≤ length (now out) + 1 ⌝ }
+    ensures { λ _. ⌜ now (out .exit) ≡ sets (now (out .entry)) at (now (s .entry)) ⌝ }
+{
+    let end = smaller(at + s.len(), out.len());
+    let mut p = at;
+    while p < end {
+        out[p] = s[p - at];
+        p += 1;
+    }
+}
+
+// Puts a text: only its length is added where it is not written.
 pub fn put_text(out: &mut [u8], at: usize, s: &[u8], write: bool) -> usize
     requires { ⌜ at ≤ length (now out) + 1 ⌝ }
     ensures { λ r. ⌜ Put write (now (out .entry)) at (now (s .entry)) r (now (out .exit)) ⌝ }
 {
-    let mut p = at;
-    let n = s.len();
-    for i in 0..n {
-        p = put(out, p, s[i], write);
+    let end = smaller(at + s.len(), out.len() + 1);
+    if write {
+        copy(out, at, s);
+        return end;
     }
-    p
+    end
 }
 
 fn place_at(places: &[usize], a: usize) -> usize
@@ -47,6 +74,30 @@ pub fn element<'a>(facts: &'a [u8], query: &'a [u8], places: &[usize], a: u8) ->
     ensures { λ r. ⌜ now r ≡ element-at (texts (now (facts .entry)) (now (query .entry)) (now (places .entry))) a ⌝ }
 {
     text_of(facts, query, place_at(places, a as usize))
+}
+
+// The most bytes that the element with the place w takes, its quotes among them.
+fn shown_most(w: usize) -> usize
+    ensures { λ r. ⌜ r ≡ shown-most w ⌝ }
+{
+    if w % 4 == 1 {
+        w / 8 % 64 + 2
+    } else {
+        w / 8 % 64
+    }
+}
+
+// The most bytes that any element takes, its quotes among them.
+pub fn longest(places: &[usize]) -> usize
+    ensures { λ r. ⌜ (r ≤ 65) × ((f q : Text) (a : ℕ) → length (shown-at (texts f q (now (places .entry))) a) ≤ r) ⌝ }
+{
+    let mut m: usize = 0;
+    let mut k: usize = 0;
+    while k < places.len() {
+        m = larger(m, shown_most(places[k]));
+        k += 1;
+    }
+    m
 }
 
 // Puts an element, in quotes where some fact quoted it.

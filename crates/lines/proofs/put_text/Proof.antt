@@ -1,70 +1,39 @@
-use Prim.Native.Nat.{ℕ, _+_, _-_, _≤_}
-use mathlib.Core.Path.{_≡_, refl, sym, ap, _∙_, subst}
-use mathlib.Core.List.{List, [], _∷_, _++_}
-use native.Mathlib.Omega.{arith}
-use native.Mathlib.Numerals.{add-one}
-use lib.ListN.{length, getD, take}
 use borrow.Author.Needs.{needs}
-use Rattle.lines.specs.Put.{Put}
-use Rattle.lines.proofs.Puts.{put-length, put-none, put-then}
-use lib.Seq.{take-all, take-suc}
+use Rattle.lines.proofs.Puts.{put-written}
 use Rattle.lines.proofs.put_text.Statement.{statement}
 use Rattle.lines.proofs.put_text.Tie as tie
 
-abbrev Inv-loop : tie.InvT-loop
-Inv-loop out₀ at s write p₀ n i₀ out p i = (i ≤ n) × (n ≡ length s) × (length out ≡ length out₀) × Put write out₀ at (take i s) p out
+add-smaller : tie.Need-add-smaller
+add-smaller c = search needs
 
-abbrev μ-loop : tie.MeasureT-loop
-μ-loop out₀ at s write p₀ n i₀ out p i = n - i
+add-smaller-2 : tie.Need-add-smaller-2
+add-smaller-2 c = search needs
 
-loop-holds : tie.Need-loop-holds Inv-loop μ-loop
-loop-holds c = (omega arith, refl, refl, put-none (c .before .before .pre))
+smaller-requires : tie.Need-smaller-requires
+smaller-requires c κs = search needs
 
-shared-slice-read-put : tie.Need-shared-slice-read-put Inv-loop μ-loop
-shared-slice-read-put c = omega arith
+copy-requires : tie.Need-copy-requires
+copy-requires c κs = search needs
 
-put-requires : tie.Need-put-requires Inv-loop μ-loop
-put-requires c κs = search needs
+same-length : tie.Need-same-length
+same-length c = search needs
 
-add-i : tie.Need-add-i Inv-loop μ-loop
-add-i c = omega arith
-
-loop-less : tie.Need-loop-less Inv-loop μ-loop
-loop-less c = omega arith
-
-loop-again : tie.Need-loop-again Inv-loop μ-loop
-loop-again c =
-    let a = c .before .before .before .before .before .before .before .before .before .args in
-    let L = c .before .before .before .before .before .before .loop in
-    let s = a .s .now in
-    let e : take (L .i) s ++ (getD s (L .i) 0 ∷ []) ≡ take (L .i + 1) s = sym (take-suc s (L .i) 0 (omega arith)) ∙ ap (λ (k : ℕ). take k s) (sym (add-one (L .i))) in
-    let q = put-then (L .inv .3) (c .before .before .put .ensures) in (
-      omega arith,
-      refl,
-      omega (arith, put-length q),
-      subst (λ (x : List ℕ). Put (a .write) (a .out .now) (a .at) x (c .before .before .put .result) (c .before .before .put .last .0)) e q,
-    )
-
-same-length : tie.Need-same-length Inv-loop μ-loop
-same-length c = omega arith
-
-returns : tie.Need-returns Inv-loop μ-loop
+returns : tie.Need-returns
 returns c =
-    let a = c .before .before .before .before .args in
-    let L = c .before .loop in
-    subst (λ (x : List ℕ). Put (a .write) (a .out .now) (a .at) x (L .p) (L .out)) (take-all (L .i) (a .s .now) (omega arith)) (L .inv .3)
+    let a = c .before .before .before .before .before .before .before .before .args in
+    put-written (a .write) (a .out .now) (a .at) (a .s .now) _ _ (c .before .before .before .before .if1 .taken) (c .before .before .before .before .before .smaller .ensures) (c .before .before .copy .ensures)
+
+returns-2 : tie.Need-returns-2
+returns-2 c = search needs
 
 pub put-text-spec : {M : Type 1} → statement M
 put-text-spec =
     tie.close
     (tie.spec
-    Inv-loop
-    μ-loop
-    loop-holds
-    shared-slice-read-put
-    put-requires
-    add-i
-    loop-less
-    loop-again
+    add-smaller
+    add-smaller-2
+    smaller-requires
+    copy-requires
     same-length
-    returns)
+    returns
+    returns-2)
