@@ -30,7 +30,7 @@ module _ (w : ℕ) where
       go true = omega arith
       go false = omega arith
 
-text-within : (f q : Text) (w : ℕ) → length (text-of f q w) ≤ w / 8 % 64
+pub text-within : (f q : Text) (w : ℕ) → length (text-of f q w) ≤ w / 8 % 64
 unfolding text-of
 text-within f q w = subst (λ (n : ℕ). n ≤ w / 8 % 64) (sym (length-take (w / 8 % 64) _)) (min-le-left (w / 8 % 64) _)
 

@@ -120,7 +120,7 @@ put-then {w} {out} {at} {x} {r} {out₁} {y} {r₂} {out₂} p q =
     go true = sets-clip out x y at r (p .end)
     go false = refl
 
--- ---- the two passes
+-- ---- a text that is put where it fits
 
 -- a count that does not fit, and one that does
 fits-not : {w : Bool} {out : List ℕ} {at : ℕ} {x : List ℕ} {r : ℕ} {out₁ : List ℕ} → Put w out at x r out₁ → length out < r → length out < at + length x
@@ -133,27 +133,24 @@ fits-yes {w} {out} {at} {x} {r} {out₁} p h =
     no : r ≡ length out + 1 → ⊥
     no e = omega arith
 
--- a place past the end
-pub print-past : (out : List ℕ) (at : ℕ) (x : List ℕ) → length out < at → Printed out at x (length out + 1) out
-print-past out at x h =
+-- by the room that is left, and by a count
+pub fits-surely : (out : List ℕ) (at : ℕ) (x : List ℕ) → at ≤ length out → length x ≤ length out - at → true ≡ leb (at + length x) (length out)
+fits-surely out at x h l = sym (le-leb (at + length x) (length out) (omega arith))
+
+pub fits-measured : {w : Bool} {out : List ℕ} {at : ℕ} {x : List ℕ} {r : ℕ} {out₁ : List ℕ} → Put w out at x r out₁ → leb r (length out) ≡ leb (at + length x) (length out)
+fits-measured {w} {out} {at} {x} {r} {out₁} p =
+    ⊎-elim (λ h. ap (λ (k : ℕ). leb k (length out)) (fits-yes p h)) (λ h. lt-leb r (length out) h ∙ sym (lt-leb (at + length x) (length out) (fits-not p h))) (le-or-lt r (length out))
+
+pub print-none : {out : List ℕ} {at : ℕ} {x out₁ : List ℕ} → length out < at + length x → out₁ ≡ out → Printed out at x (length out + 1) out₁
+print-none {out} {at} {x} {out₁} h e =
     record {
       end = sym (min-eq-right (omega arith));
-      bytes = ap (λ (b : Bool). cond b (sets out at x) out) (sym (lt-leb (at + length x) (length out) (omega arith)));
+      bytes = e ∙ ap (λ (b : Bool). cond b (sets out at x) out) (sym (lt-leb (at + length x) (length out) h));
     }
 
-pub print-full : {out : List ℕ} {at : ℕ} {x : List ℕ} {r : ℕ} {out₁ : List ℕ} → Put false out at x r out₁ → length out < r → Printed out at x r out₁
-print-full {out} {at} {x} {r} {out₁} p h =
+pub print-all : {out : List ℕ} {at : ℕ} {x out₁ : List ℕ} {r : ℕ} {out₂ : List ℕ} → at + length x ≤ length out → out₁ ≡ out → Put true out₁ at x r out₂ → Printed out at x r out₂
+print-all {out} {at} {x} {out₁} {r} {out₂} h e q =
     record {
-      end = p .end;
-      bytes = p .bytes ∙ ap (λ (b : Bool). cond b (sets out at x) out) (sym (lt-leb (at + length x) (length out) (fits-not p h)));
-    }
-
-pub print-fits : {out : List ℕ} {at : ℕ} {x : List ℕ} {r : ℕ} {out₁ : List ℕ} {r₂ : ℕ} {out₂ : List ℕ}
-    → Put false out at x r out₁ → r ≤ length out → Put true out₁ at x r₂ out₂ → Printed out at x r₂ out₂
-print-fits {out} {at} {x} {r} {out₁} {r₂} {out₂} p h q =
-    record {
-      end = q .end ∙ ap (λ (k : ℕ). min (at + length x) (k + 1)) (put-length p);
-      bytes =
-          q .bytes ∙ ap (λ (l : List ℕ). sets l at x) (p .bytes)
-          ∙ ap (λ (b : Bool). cond b (sets out at x) out) (sym (le-leb (at + length x) (length out) (omega (arith, fits-yes p h))));
+      end = q .end ∙ ap (λ (o : List ℕ). min (at + length x) (length o + 1)) e;
+      bytes = q .bytes ∙ ap (λ (o : List ℕ). sets o at x) e ∙ ap (λ (b : Bool). cond b (sets out at x) out) (sym (le-leb (at + length x) (length out) h));
     }
