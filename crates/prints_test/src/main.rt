@@ -42,7 +42,13 @@ fn prints(out: &mut [u8], after: &[u8])
 }
 
 fn main() {
-    // All nine bytes fit, and the tenth stays.
+    // Room for four lines of ten bytes and byte 10: written without measuring.
+    let mut ample = [0u8; 41];
+    prints(
+        &mut ample,
+        b"L a \"b\"\n\n\x00\x00\x00\x00\x00\x00\x00\x00\x00\x00\x00\x00\x00\x00\x00\x00\x00\x00\x00\x00\x00\x00\x00\x00\x00\x00\x00\x00\x00\x00\x00\x00",
+    );
+    // All nine bytes fit, measured first, and the tenth stays.
     let mut enough = [0u8; 10];
     prints(&mut enough, b"L a \"b\"\n\n\x00");
     // One byte short: nothing is written, and the end is one past the buffer.

@@ -15,4 +15,7 @@ main-spec =
     (λ c. search needs)
     (λ c. search needs)
     (λ c κs. record { end = refl; bytes = refl })
+    (λ c. search needs)
+    (λ c. search needs)
+    (λ c κs. record { end = refl; bytes = refl })
     (λ c. search needs))
