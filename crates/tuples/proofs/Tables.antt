@@ -4,7 +4,7 @@ use mathlib.Core.Path.{_≡_, refl, sym, ap, ap₂, _∙_, subst}
 use mathlib.Core.Bool.{Bool, true, false, _||_, or-false}
 use mathlib.Core.List.{List, [], _∷_, _++_, append-assoc}
 use mathlib.Core.Logic.{_⊎_, inl, inr, ⊎-elim}
-use native.Mathlib.Nat.{add-zero, zero-add, add-suc, suc-add, mul-comm, zero-mul, pow-zero, pow-suc, not-suc-le-zero, zero-lt-suc, div-add-mod, div-lt-iff-lt-mul, lt-of-lt-of-le, le-trans, pow-le-pow-left, pow-le-pow-right}
+use native.Mathlib.Nat.{add-zero, zero-add, add-suc, suc-add, mul-comm, zero-mul, pow-zero, pow-suc, not-suc-le-zero, zero-lt-suc, div-add-mod, div-lt-iff-lt-mul, lt-of-lt-of-le}
 use native.Mathlib.Omega.{arith}
 use native.Mathlib.Numerals.{add-one}
 use borrow.Author.Tests.{eq-eqb, ne-eqb, eqb-true, eqb-false}
@@ -257,13 +257,6 @@ sets-part l off n ws h e =
 pub length-with : (u : ℕ) (ws t : List ℕ) → length (with-tuple u ws t) ≡ length ws
 unfolding with-tuple
 length-with u ws t = length-set ws (word-at u 0 t) _
-
-pub number-small : (u n i : ℕ) → u ≤ 64 → n ≤ 4 → i < u ^ n → i < 16777216
-number-small u n i h l m = lt-of-lt-of-le m (le-trans (pow-le-pow-left h n) (pow-le-pow-right (zero-lt-suc 63) l))
-
-pub width-at : (u n : ℕ) → (n ≡ 0 → ⊥) → u ≡ width u n
-width-at u zero h = absurd (h refl)
-width-at u (suc n) h = refl
 
 -- words that are zero are the table of no tuple
 pub none-of : (n : ℕ) → word n 0 (λ (b : ℕ). false) ≡ 0
