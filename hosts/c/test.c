@@ -157,8 +157,8 @@ static size_t stack_used(char *query)
     return sizeof stack - free;
 }
 
-/* PRINT of `levels` times `open`, n conjunctions of P(), and as often `close`, the last time `last`. */
-static char *deep_query(const char *open, int levels, int n, const char *close, const char *last)
+/* PRINT of `levels` times `open`, n conjunctions of P() and an atom, and as often `close`, the last time `last`. */
+static char *deep_query(const char *open, int levels, int n, const char *atom, const char *close, const char *last)
 {
     static char query[4096];
     char *at = query + sprintf(query, "PRINT ");
@@ -166,7 +166,7 @@ static char *deep_query(const char *open, int levels, int n, const char *close, 
         at += sprintf(at, "%s", open);
     for (int i = 0; i < n; i++)
         at += sprintf(at, "P()&");
-    at += sprintf(at, "P()");
+    at += sprintf(at, "%s", atom);
     for (int i = 1; i < levels; i++)
         at += sprintf(at, "%s", close);
     sprintf(at, "%s;", levels ? last : "");
@@ -176,10 +176,12 @@ static char *deep_query(const char *open, int levels, int n, const char *close, 
 static void small_stack(void)
 {
     struct { const char *shape; size_t used; } stacks[] = {
-        { "32 levels", stack_used(deep_query("(", 32, 0, ")", ")")) },
-        { "the longest chain of &", stack_used(deep_query("", 0, 510, "", "")) },
-        { "one within 32 comparisons", stack_used(deep_query("(", 32, 462, "<=P())", "<=P())")) },
-        { "one within 32 EX and comparisons", stack_used(deep_query("EX(x,", 32, 438, ">=P())", "<=P())")) },
+        { "32 levels", stack_used(deep_query("(", 32, 0, "P()", ")", ")")) },
+        { "the longest chain of &", stack_used(deep_query("", 0, 510, "P()", "", "")) },
+        { "one within 32 comparisons", stack_used(deep_query("(", 32, 462, "P()", "<=P())", "<=P())")) },
+        { "one within 32 EX and comparisons", stack_used(deep_query("EX(x,", 32, 438, "P()", ">=P())", "<=P())")) },
+        { "one with two columns", stack_used(deep_query("", 0, 510, "On(x,y)", "", "")) },
+        { "one with a column within 32 EX", stack_used(deep_query("EX(y,", 32, 470, "On(x,y)", ")", ")")) },
     };
     for (size_t i = 0; i < sizeof stacks / sizeof *stacks; i++) {
         printf("stack: %zu bytes in %s\n", stacks[i].used, stacks[i].shape);
