@@ -177,7 +177,8 @@ def compared():
             [name, ratio(database_times, 0, run), ratio(asp, 0, run), ratio(database_times, 1, own), ratio(swipl, 0, own), f"{run / bits[0]:,.0f}"]
         )
     table("query,rows,relcalc,of it check,run less check,SQLite with load,SQLite query,SWI-Prolog,clingo,C on bits".split(","), times)
-    print()
+    (check, run), _ = program(os.path.join(to, "relcalc"), path, file("query.rml", "PRINT ENDL;"))
+    print(f"\nOf each `run less check`, {run - check:,.1f} are for loading the facts: so much has `PRINT ENDL;`, which asks for nothing.\n")
     table(
         "query,SQLite with load / relcalc,clingo / relcalc,SQLite query / run less check,SWI-Prolog / run less check,relcalc / C".split(","),
         ratios,
