@@ -1,0 +1,20 @@
+use borrow.Author.Needs.{needs}
+use mathlib.Core.Path.{refl}
+use Rattle.definition.specs.Everything.{everything}
+use Rattle.element_test.proofs.refused.Statement.{statement}
+use Rattle.element_test.proofs.refused.Tie as tie
+
+pub refused-spec : {M : Type 1} → statement M
+unfolding everything
+refused-spec =
+    tie.close
+    (tie.spec
+    (λ c. search needs)
+    (λ c. search needs)
+    (λ c. search needs)
+    (λ c κs. record { place = refl; bytes = refl; inside = search needs })
+    (λ c. search needs)
+    (λ c. search needs)
+    (λ c. search needs)
+    (λ c κs. record { place = refl; bytes = refl; inside = search needs })
+    (λ c. search needs))
