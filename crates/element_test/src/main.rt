@@ -47,20 +47,20 @@ fn first_places() {
     in_query(facts, query, 5, 0, b"");
 }
 
-// "Quotes are no part of its value": an empty element is the empty part after its opening quote.
+// "Quotes are no part of its value": an empty element is the empty part after its opening quote. x stands in both texts.
 fn quoted() {
     let facts = b"R \"\" \"x y\" x";
-    let query = b"P();";
+    let query = b"P(\"x\");";
     in_facts(facts, query, 0, 3, b"");
     in_facts(facts, query, 1, 11, b"x");
     in_facts(facts, query, 2, 6, b"x y");
 }
 
-// "first left-hand string": the empty one is not the empty part at the query's start.
+// "first left-hand string": none of the right-hand side; the empty one is not the empty part at the query's start.
 fn left_hand_strings() {
-    let query = b"R(\"\",\"a\"); R(\"a\",\"\");";
-    in_query(b"", query, 0, 3, b"");
-    in_query(b"", query, 1, 6, b"a");
+    let query = b"P() := \"a\"=\"a\"; R(\"\",\"a\",\"a\");";
+    in_query(b"", query, 0, 19, b"");
+    in_query(b"", query, 1, 22, b"a");
 }
 
 // "refused texts": the empty part at the query's start, also where the facts hold the element.
