@@ -10,9 +10,8 @@ use native.Mathlib.Numerals.{add-one}
 use borrow.Author.Tests.{eq-eqb, ne-eqb, eqb-true, eqb-false}
 use lib.Dec.{eqb, T}
 use lib.Arith.{digits-lt, digits-div, lt-one}
-use lib.ListN.{length, getD, set, take, drop, length-set, replicate, length-replicate, getD-replicate, length-drop, List·getD-eq-default, List·getD-append}
-use lib.Seq.{ext-getD, set-out, getD-set-same, getD-set-other, length-take-le, sets, sets-eq, drop-drop}
-use borrow.Rule.Slice.PartMut.{putMid}
+use lib.ListN.{length, getD, set, length-set, replicate, length-replicate, getD-replicate, List·getD-eq-default, List·getD-append}
+use lib.Seq.{ext-getD, set-out, getD-set-same, getD-set-other}
 use Rattle.bits.specs.Bits.{with-bit}
 use Rattle.bits.proofs.Laws.{bit-with, with-lt, word-bit, word-ext, word-lt, word-same, bit-none}
 use lib.Pow.{pow-pos}
@@ -21,7 +20,6 @@ use Rattle.definition.specs.Tables.{Tuple, bit, word, holds-from, holds, table,
 use Rattle.definition.proofs.TableLaws.{length-table, Below}
 use Rattle.definition.proofs.MeaningLaws.{same-eq, same-refl}
 use Rattle.tuples.specs.Places.{digits, width, word-at, bit-at, with-tuple}
-use Rattle.tuples.proofs.Stores.{sets-set, sets-same}
 use Rattle.tuples.proofs.Digits.{pos, length-digits, digits-below, digits-snoc, words-pow, table-row}
 
 -- ---- words that are a table's
@@ -247,13 +245,6 @@ module _ (u : ℕ) (t : Tuple) (h : Below u t) where
           ∙ table-row u (length t) f w l
           ∙ word-same d (F w) (G w) (λ b m. sym (ap (λ (k : Bool). F w b || k) (same-else w b l m p) ∙ or-false (F w b)))
 
--- a part of a list put back
-pub sets-part : (l : List ℕ) (off n : ℕ) (ws : List ℕ) → off + n ≤ length l → length ws ≡ n → putMid off n l ws ≡ sets l off ws
-sets-part l off n ws h e =
-    ap (λ (s : List ℕ). take off l ++ (ws ++ s)) (drop-drop n off l ∙ ap (λ (k : ℕ). drop (off + k) l) (sym e))
-    ∙ sym (append-assoc (take off l) ws (drop (off + length ws) l))
-    ∙ sym (sets-eq ws l off (rw e h))
-
 pub length-with : (u : ℕ) (ws t : List ℕ) → length (with-tuple u ws t) ≡ length ws
 unfolding with-tuple
 length-with u ws t = length-set ws (word-at u 0 t) _
@@ -266,13 +257,3 @@ pub table-none : (u n : ℕ) → replicate (table-words u n) 0 ≡ table u n (λ
 table-none u n =
     words-table u n (λ t. false) (replicate (table-words u n) 0) (length-replicate (table-words u n) 0)
     (λ w l. getD-replicate (table-words u n) w 0 0 l ∙ sym (none-of (width u n)))
-
--- one word of a lent part
-pub part-set : (l : List ℕ) (off n w v : ℕ) → off + n ≤ length l → w < n → putMid off n l (set (take n (drop off l)) w v) ≡ set l (off + w) v
-part-set l off n w v h k =
-    sets-part l off n (set (take n (drop off l)) w v) h (length-set (take n (drop off l)) w v ∙ len)
-    ∙ sets-set (take n (drop off l)) l off w v (omega (arith, len))
-    ∙ ap (λ (s : List ℕ). set s (off + w) v) (sets-same l off n h)
-  where
-    len : length (take n (drop off l)) ≡ n
-    len = length-take-le n (drop off l) (omega (arith, length-drop off l))

@@ -2,10 +2,9 @@ use Prim.Native.Nat.{ℕ, _-_, _≤_}
 use mathlib.Core.Path.{_≡_, refl, sym, ap, ap₂, _∙_}
 use mathlib.Core.List.{List}
 use native.Mathlib.Omega.{arith}
-use native.Mathlib.Nat.{zero-add}
 use lib.ListN.{length, set, take, replicate, length-set, length-replicate, getD-replicate}
 use lib.Seq.{sets, take-all}
-use Rattle.tuples.proofs.Stores.{sets-more, sets-whole}
+use Rattle.tuples.proofs.Stores.{sets-more-front, sets-whole}
 use Rattle.scratch.proofs.clear.Statement.{statement}
 use Rattle.scratch.proofs.clear.Tie as tie
 
@@ -36,10 +35,9 @@ loop-again c = let L = c .before .loop in
     let n = length l in (
       omega arith,
       refl,
-      length-set (L .words) (L .w) 0 ∙ L .inv .2,
-      ap (λ (x : List ℕ). set x (L .w) 0) (L .inv .3)
-          ∙ ap₂ (λ (k x : ℕ). set (sets l 0 (take (L .w) (replicate n 0))) k x) (sym (zero-add (L .w))) (sym (getD-replicate n (L .w) 0 0 (omega arith)))
-          ∙ sets-more l 0 (replicate n 0) (L .w) 0 (omega (arith, length-replicate {A = ℕ} n 0)),
+      length-set (L .words) (L .w) _ ∙ L .inv .2,
+      ap₂ (λ (x : List ℕ) (v : ℕ). set x (L .w) v) (L .inv .3) (sym (getD-replicate n (L .w) 0 0 (omega arith)))
+          ∙ sets-more-front l (replicate n 0) (L .w) 0 (omega (arith, length-replicate {A = ℕ} n 0)),
     )
 
 same-length : tie.Need-same-length Inv-loop μ-loop

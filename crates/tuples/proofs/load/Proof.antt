@@ -8,7 +8,8 @@ use lib.ListN.{take, drop, length-drop}
 use lib.Seq.{length-take-le}
 use borrow.Rule.Slice.PartMut.{putMid}
 use Rattle.tuples.specs.Places.{with-tuple}
-use Rattle.tuples.proofs.Tables.{sets-part, length-with}
+use Rattle.tuples.proofs.Tables.{length-with}
+use Rattle.tuples.proofs.Stores.{sets-part}
 use Rattle.tuples.proofs.load.Statement.{statement}
 use Rattle.tuples.proofs.load.Tie as tie
 
