@@ -35,7 +35,7 @@ loop-again c = let L = c .before .loop in
     let n = length l in (
       omega arith,
       refl,
-      length-set (L .words) (L .w) _ ∙ L .inv .2,
+      length-set (L .words) _ _ ∙ L .inv .2,
       ap₂ (λ (x : List ℕ) (v : ℕ). set x (L .w) v) (L .inv .3) (sym (getD-replicate n (L .w) 0 0 (omega arith)))
           ∙ sets-more-front l (replicate n 0) (L .w) 0 (omega (arith, length-replicate {A = ℕ} n 0)),
     )
