@@ -7,7 +7,8 @@ ghost use lib.Seq.{sets};
 ghost use Rattle.definition.specs.Tables.{table, table-words};
 ghost use Rattle.assignment.specs.New.{new-at};
 use assignment::assign;
-use checks::expect_words;
+use check::expect;
+use checks::same_words;
 
 // The node of relation 0's atom at slots 0 and 1.
 const ATOM: u64 = 144115188075855872 + 65 * 4294967296 + 64 * 16777216 + 10;
@@ -48,7 +49,7 @@ fn assigns(
         len,
         len,
     );
-    expect_words(store, after);
+    expect(same_words(store, after));
 }
 
 // Arities 0 and 1.

@@ -1,13 +1,20 @@
-// A check of whole lists, for the test programs: as `check::expect`, it is proved of its callers, and run.
+// A comparison of whole lists, for the checks of the test programs.
 ghost use mathlib.Core.Path.{_≡_};
-use check::expect;
+ghost use mathlib.Core.Bool.{true};
 
-// The words a are the words b.
-pub fn expect_words(a: &[u64], b: &[u64])
-    requires { ⌜ now a ≡ now b ⌝ }
+// Whether a and b hold the same words.
+pub fn same_words(a: &[u64], b: &[u64]) -> bool
+    ensures { λ r. ⌜ (r ≡ true → now (a .entry) ≡ now (b .entry)) × (now (a .entry) ≡ now (b .entry) → r ≡ true) ⌝ }
 {
-    expect(a.len() == b.len());
-    for i in 0..a.len() {
-        expect(a[i] == b[i]);
+    if a.len() != b.len() {
+        return false;
     }
+    let mut i = 0;
+    while i < a.len() {
+        if a[i] != b[i] {
+            return false;
+        }
+        i += 1;
+    }
+    true
 }

@@ -3,7 +3,8 @@ ghost use mathlib.Core.Path.{_≡_};
 ghost use lib.ListN.{length};
 ghost use Rattle.definition.specs.Tables.{closure};
 ghost use Rattle.closure.specs.Rows.{Rows};
-use checks::expect_words;
+use check::expect;
+use checks::same_words;
 use closure::close;
 
 // The closure of the rows is `closed`.
@@ -12,7 +13,7 @@ fn closes(rows: &mut [u64], closed: &[u64])
     requires { ⌜ closure (length (now rows)) (now rows) ≡ now closed ⌝ }
 {
     close(rows);
-    expect_words(rows, closed);
+    expect(same_words(rows, closed));
 }
 
 fn main() {

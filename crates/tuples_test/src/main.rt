@@ -5,7 +5,7 @@ ghost use lib.ListN.{length, take, drop};
 ghost use lib.Seq.{sets};
 ghost use Rattle.tuples.specs.Places.{with-tuple};
 use check::expect;
-use checks::expect_words;
+use checks::same_words;
 use tuples::has;
 use tuples::load;
 use tuples::tuple_of;
@@ -16,7 +16,7 @@ fn loads(store: &mut [u64], off: usize, len: usize, n: usize, t: [u8; 4], after:
     requires { ⌜ sets (now store) off (with-tuple 4 (take len (drop off (now store))) (take n t)) ≡ now after ⌝ }
 {
     load(store, off, len, 4, n, t);
-    expect_words(store, after);
+    expect(same_words(store, after));
 }
 
 // The pair (1,3) of document 01's case B is bit 3 of word 1; the words beside the table stay. (a) is bit a, and the empty tuple is bit 0.

@@ -3,8 +3,8 @@ use mathlib.Core.Path.{_∙_}
 use Rattle.assignment_test.proofs.assigns.Statement.{statement}
 use Rattle.assignment_test.proofs.assigns.Tie as tie
 
-expect-words-requires : tie.Need-expect-words-requires
-expect-words-requires c κs = c .before .before .before .assign .ensures ∙ c .before .before .before .before .before .before .before .before .before .before .pre .1
+expect-requires : tie.Need-expect-requires
+expect-requires c κs = let f = c .before .before .before .before in c .same-words .ensures .1 (f .assign .ensures ∙ f .before .before .before .before .before .before .before .pre .1)
 
 pub assigns-spec : {M : Type 1} → statement M
 assigns-spec =
@@ -14,6 +14,7 @@ assigns-spec =
     (λ c. search needs)
     (λ c. search needs)
     (λ c κs. search needs)
-    expect-words-requires
+    (λ c κs. search needs)
+    expect-requires
     (λ c. search needs)
     (λ c. search needs))
