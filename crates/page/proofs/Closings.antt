@@ -20,7 +20,7 @@ use Rattle.definition.specs.declared.Stopped.{Stopped}
 use Rattle.definition.specs.declared.Ran.{Ran}
 use Rattle.definition.specs.declared.Ran.the-variants.{Ended, Refused}
 use Rattle.lines.specs.Put.{Put}
-use Rattle.page.specs.Closing.{LINE-BYTES, closing, shown, Closes}
+use Rattle.page.specs.Closing.{LINE-BYTES, closing, refusal-text, shown, Closes}
 
 -- a number's digits, by how many it may have
 pub digits-none : (k n : ℕ) → k ≡ 0 → [] ≡ digits k n
@@ -54,9 +54,12 @@ pub stopped-line : (s : Stopped) → (ending-word (s .ending) ++ (32 ∷ decimal
 unfolding page
 stopped-line s = append-assoc (ending-word (s .ending)) (32 ∷ decimal (s .steps)) (10 ∷ [])
 
-pub refused-line : (q : Refusal) {m e : ℕ} → m ≡ number q → e ≡ place q → ((ascii "refused" ++ (32 ∷ decimal m)) ++ (32 ∷ decimal e)) ++ (10 ∷ []) ≡ page (refusal q) []
+pub refusal-parts : (q : Refusal) {m e : ℕ} → m ≡ number q → e ≡ place q → (ascii "refused" ++ (32 ∷ decimal m)) ++ (32 ∷ decimal e) ≡ refusal-text q
+refusal-parts q f g = rw (f, g) refl
+
+pub refused-line : (q : Refusal) → refusal-text q ++ (10 ∷ []) ≡ page (refusal q) []
 unfolding page
-refused-line q f g = rw (f, g) (ap (λ (x : Text). ascii "refused " ++ x) (append-assoc (decimal (number q)) (32 ∷ decimal (place q)) (10 ∷ [])))
+refused-line q = ap (λ (x : Text). ascii "refused " ++ x) (append-assoc (decimal (number q)) (32 ∷ decimal (place q)) (10 ∷ []))
 
 few-in-word : (e : Ending) → length (ending-word e) ≤ 5
 few-in-word Done = omega arith

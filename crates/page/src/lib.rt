@@ -7,7 +7,7 @@ ghost use lib.ListN.{length};
 ghost use Rattle.definition.specs.Answer.{ok, refusal, ending-word};
 ghost use Rattle.definition.specs.Page.{digits, decimal, page};
 ghost use Rattle.lines.specs.Put.{Put};
-ghost use Rattle.page.specs.Closing.{Closes};
+ghost use Rattle.page.specs.Closing.{refusal-text, Closes};
 ghost use Rattle.page.specs.Closing.{shown as bytes-shown};
 use definition::Ending;
 use definition::Ran;
@@ -17,7 +17,7 @@ use lines::put;
 use lines::put_text;
 
 // Puts a number of at most k digits.
-fn put_digits(out: &mut [u8], at: usize, n: u64, k: usize) -> usize
+pub fn put_digits(out: &mut [u8], at: usize, n: u64, k: usize) -> usize
     requires { ⌜ at ≤ length (now out) + 1 ⌝ }
     ensures { λ r. ⌜ Put true (now (out .entry)) at (digits k n) r (now (out .exit)) ⌝ }
 {
@@ -32,7 +32,7 @@ fn put_digits(out: &mut [u8], at: usize, n: u64, k: usize) -> usize
 }
 
 // Puts a space and a number.
-fn put_number(out: &mut [u8], at: usize, n: u64) -> usize
+pub fn put_number(out: &mut [u8], at: usize, n: u64) -> usize
     ensures { λ r. ⌜ Put true (now (out .entry)) at (32 ∷ decimal n) r (now (out .exit)) ⌝ }
 {
     let p = put(out, at, 32, true);
@@ -40,7 +40,7 @@ fn put_number(out: &mut [u8], at: usize, n: u64) -> usize
 }
 
 // Puts the word of an ending.
-fn put_ending(out: &mut [u8], e: Ending) -> usize
+pub fn put_ending(out: &mut [u8], e: Ending) -> usize
     ensures { λ r. ⌜ Put true (now (out .entry)) 0 (ending-word e) r (now (out .exit)) ⌝ }
 {
     match e {
@@ -60,16 +60,23 @@ fn put_stopped(out: &mut [u8], s: Stopped) -> usize
     put(out, q, 10, true)
 }
 
-// Puts the line of a refusal.
-fn put_refused(out: &mut [u8], q: Refusal) -> usize
-    ensures { λ r. ⌜ Put true (now (out .entry)) 0 (page (refusal q) []) r (now (out .exit)) ⌝ }
+// Puts a refusal's number and place.
+pub fn put_refusal(out: &mut [u8], q: Refusal) -> usize
+    ensures { λ r. ⌜ Put true (now (out .entry)) 0 (refusal-text q) r (now (out .exit)) ⌝ }
 {
     let number = answers::number(q);
     let place = answers::place(q);
     let p = put_text(out, 0, b"refused", true);
     let m = put_number(out, p, number as u64);
-    let e = put_number(out, m, place as u64);
-    put(out, e, 10, true)
+    put_number(out, m, place as u64)
+}
+
+// Puts the line of a refusal.
+fn put_refused(out: &mut [u8], q: Refusal) -> usize
+    ensures { λ r. ⌜ Put true (now (out .entry)) 0 (page (refusal q) []) r (now (out .exit)) ⌝ }
+{
+    let p = put_refusal(out, q);
+    put(out, p, 10, true)
 }
 
 // Writes the closing line at the start of the buffer and answers its length; a buffer of under 30 bytes, the longest line's, stays, and the answer is 0.

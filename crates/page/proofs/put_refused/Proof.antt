@@ -9,23 +9,8 @@ use borrow.Author.Needs.{needs}
 use Rattle.page.proofs.put_refused.Statement.{statement}
 use Rattle.page.proofs.put_refused.Tie as tie
 
-number-requires : tie.Need-number-requires
-number-requires c κs = search needs
-
-place-requires : tie.Need-place-requires
-place-requires c κs = search needs
-
-slice-aggregate-put-text : tie.Need-slice-aggregate-put-text
-slice-aggregate-put-text c = search needs
-
-put-text-requires : tie.Need-put-text-requires
-put-text-requires c κs = search needs
-
-put-number-requires : tie.Need-put-number-requires
-put-number-requires c κs = search needs
-
-put-number-requires-2 : tie.Need-put-number-requires-2
-put-number-requires-2 c κs = search needs
+put-refusal-requires : tie.Need-put-refusal-requires
+put-refusal-requires c κs = search needs
 
 put-requires : tie.Need-put-requires
 put-requires c κs = search needs
@@ -34,21 +19,9 @@ same-length : tie.Need-same-length
 same-length c = search needs
 
 returns : tie.Need-returns
-returns c = let a = c .before .before .before .before .before .before .before .before .before .before .before .before .before .before .before .before .before .before .before .before .args in
-    subst (λ (x : List ℕ). Put true (a .out .now) 0 x (c .before .before .put .result) (c .before .before .put .last .0))
-    (refused-line (a .q) (c .before .before .before .before .before .before .before .before .before .before .before .before .before .before .before .before .before .before .number .ensures) (c .before .before .before .before .before .before .before .before .before .before .before .before .before .before .before .before .before .place .ensures))
-    (put-then (put-then (put-then (c .before .before .before .before .before .before .before .before .before .before .before .before .before .before .put-text .ensures) (c .before .before .before .before .before .before .before .before .before .before .put-number .ensures)) (c .before .before .before .before .before .before .put-number2 .ensures)) (c .before .before .put .ensures))
+returns c = let a = c .before .before .before .before .before .before .before .before .before .args in
+    subst (λ (x : List ℕ). Put true (a .out .now) 0 x (c .before .before .put .result) (c .before .before .put .last .0)) (refused-line (a .q))
+    (put-then (c .before .before .before .before .before .before .put-refusal .ensures) (c .before .before .put .ensures))
 
 pub put-refused-spec : {M : Type 1} → statement M
-put-refused-spec =
-    tie.close
-    (tie.spec
-    number-requires
-    place-requires
-    slice-aggregate-put-text
-    put-text-requires
-    put-number-requires
-    put-number-requires-2
-    put-requires
-    same-length
-    returns)
+put-refused-spec = tie.close (tie.spec put-refusal-requires put-requires same-length returns)
