@@ -1,22 +1,43 @@
 // Prints the chains found over worked facts: a line for each, with the count and the numbers, or the row and the place of the refusal; then
 // how many bytes of the buffer are as they were.
+ghost use Prim.Native.Nat.{_+_, _≤_};
+ghost use lib.ListN.{length};
 use chain::chain;
 use definition::Chained;
-use listing::say;
-use listing::say_number;
-use listing::show_bytes;
-use listing::show_refusal;
+use libc::STDOUT_FILENO;
+use lines::put;
+use lines::put_text;
+use listing::put_bytes;
+use listing::untouched;
+use page::put_digits;
+use page::put_refusal;
+use parts::part;
+
+// Ends the line at place n and writes it.
+fn write_line(line: &mut [u8], n: usize) {
+    let end = put(line, n, 10, true);
+    io::write_all(STDOUT_FILENO, part(line, 0, end));
+}
+
+// Puts the count, or the refusal.
+fn put_answer(line: &mut [u8], c: Chained) -> usize
+    ensures { λ r. ⌜ r ≤ length (now (line .exit)) + 1 ⌝ }
+{
+    match c {
+        Chained::Chain(count) => put_digits(line, 0, count as u64, 10),
+        Chained::Refused(q) => put_refusal(line, q),
+    }
+}
 
 // The chain with a buffer whose bytes are 255.
 fn show_in(facts: &[u8], name: &[u8], first: &[u8], second: &[u8], buffer: &mut [u8]) {
-    match chain(facts, name, first, second, buffer) {
-        Chained::Chain(count) => say_number(count as u64),
-        Chained::Refused(q) => show_refusal(q),
-    }
-    let stayed = show_bytes(buffer);
-    say(b", ");
-    say_number(stayed as u64);
-    say(b"\n");
+    let mut line = [0u8; 256];
+    let c = chain(facts, name, first, second, buffer);
+    let a = put_answer(&mut line, c);
+    let b = put_bytes(&mut line, a, buffer);
+    let t = put_text(&mut line, b, b", ", true);
+    let n = put_digits(&mut line, t, untouched(buffer) as u64, 10);
+    write_line(&mut line, n);
 }
 
 fn show(facts: &[u8], name: &[u8], first: &[u8], second: &[u8]) {

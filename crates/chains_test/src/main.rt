@@ -1,10 +1,31 @@
 // Prints the chains found in worked tables: a line for each, with the count and then the bytes of the buffer that are not as they were.
+ghost use Prim.Native.Nat.{_+_, _≤_};
+ghost use lib.ListN.{length};
 use bits::set_bit;
 use chains::find_chain;
 use definition::Chained;
-use listing::say;
-use listing::say_number;
-use listing::show_bytes;
+use libc::STDOUT_FILENO;
+use lines::put;
+use lines::put_text;
+use listing::put_bytes;
+use page::put_digits;
+use parts::part;
+
+// Ends the line at place n and writes it.
+fn write_line(line: &mut [u8], n: usize) {
+    let end = put(line, n, 10, true);
+    io::write_all(STDOUT_FILENO, part(line, 0, end));
+}
+
+// Puts the count, if there is a chain.
+fn put_answer(line: &mut [u8], c: Chained) -> usize
+    ensures { λ r. ⌜ r ≤ length (now (line .exit)) + 1 ⌝ }
+{
+    match c {
+        Chained::Chain(count) => put_digits(line, 0, count as u64, 10),
+        Chained::Refused(_) => put_text(line, 0, b"none", true),
+    }
+}
 
 fn show_chain(rows: &[u64], a: usize, b: usize) {
     let n = rows.len();
@@ -18,12 +39,11 @@ fn show_chain(rows: &[u64], a: usize, b: usize) {
         return;
     }
     let mut buffer = [255u8; 66];
-    match find_chain(rows, a, b, &mut buffer) {
-        Chained::Chain(count) => say_number(count as u64),
-        Chained::Refused(_) => say(b"none"),
-    }
-    show_bytes(&buffer);
-    say(b"\n");
+    let mut line = [0u8; 256];
+    let c = find_chain(rows, a, b, &mut buffer);
+    let p = put_answer(&mut line, c);
+    let n = put_bytes(&mut line, p, &buffer);
+    write_line(&mut line, n);
 }
 
 // Each element has a pair with the next, and the last with the first: the longest chain that there is.

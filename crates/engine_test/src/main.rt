@@ -1,56 +1,53 @@
 // Runs the worked cases of document 01 and texts that are refused, each with its own budget, store and output, and prints the case's letter or
 // the row with the query, and then what the calls answer.
-use definition::Ending;
 use definition::Figures;
 use definition::Ran;
+use definition::Stopped;
 use definition::Verdict;
-use listing::next_number;
-use listing::say;
-use listing::show_refusal;
+use libc::STDOUT_FILENO;
+use lines::put;
+use lines::put_text;
+use page::put_ending;
+use page::put_number;
+use page::put_refusal;
+use page::shown;
+use parts::part;
 
-fn show_ending(ending: Ending) {
-    match ending {
-        Ending::Done => say(b"done"),
-        Ending::Spent => say(b"spent"),
-        Ending::Full => say(b"full"),
-    }
+// Ends the line at place n and writes it.
+fn write_line(line: &mut [u8], n: usize) {
+    let end = put(line, n, 10, true);
+    io::write_all(STDOUT_FILENO, part(line, 0, end));
 }
 
-// The first n bytes of the output.
-fn show_page(output: &[u8], n: usize) {
-    if n <= output.len() {
-        say(&output[..n]);
-    }
+fn put_stopped(line: &mut [u8], s: Stopped) -> usize {
+    let ending = s.ending;
+    let p = put_ending(line, ending);
+    let n = put_number(line, p, s.steps as u64);
+    put_number(line, n, s.written as u64)
 }
 
-fn show_run(r: Ran, output: &[u8]) {
+fn put_run(line: &mut [u8], r: Ran) -> usize {
     match r {
-        Ran::Ended(s) => {
-            let ending = s.ending;
-            show_ending(ending);
-            next_number(s.steps as u64);
-            next_number(s.written as u64);
-            say(b"\n");
-            show_page(output, s.written);
-        }
-        Ran::Refused(q) => {
-            show_refusal(q);
-            say(b"\n");
-        }
+        Ran::Ended(s) => put_stopped(line, s),
+        Ran::Refused(q) => put_refusal(line, q),
     }
 }
 
 fn run_in<'a>(facts: &'a [u8], query: &'a [u8], budget: u32, store: &mut [u64], output: &mut [u8]) {
+    let mut line = [0u8; 256];
     let r = engine::run(facts, query, budget, store, output);
-    show_run(r, output);
+    let n = put_run(&mut line, r);
+    write_line(&mut line, n);
+    io::write_all(STDOUT_FILENO, part(output, 0, shown(r)));
 }
 
 // The case and its query.
 fn show_case(case: &[u8], query: &[u8]) {
-    say(case);
-    say(b": ");
-    say(query);
-    say(b"\n");
+    let mut line = [0u8; 256];
+    let p = put_text(&mut line, 0, case, true);
+    let q = put_text(&mut line, p, b": ", true);
+    let n = put_text(&mut line, q, query, true);
+    write_line(&mut line, n);
 }
 
 // A run in a store of so many words and an output of so many bytes, up to 256 each.
@@ -73,27 +70,28 @@ fn run<'a>(case: &[u8], facts: &'a [u8], query: &'a [u8], budget: u32, words: us
     );
 }
 
-fn show_figures(f: Figures) {
-    say(b"accepted");
-    next_number(f.universe as u64);
-    next_number(f.words as u64);
-    next_number(f.relations as u64);
+fn put_figures(line: &mut [u8], f: Figures) -> usize {
+    let p = put_text(line, 0, b"accepted", true);
+    let u = put_number(line, p, f.universe as u64);
+    let w = put_number(line, u, f.words as u64);
+    put_number(line, w, f.relations as u64)
 }
 
-fn show_verdict(v: Verdict) {
+fn put_verdict(line: &mut [u8], v: Verdict) -> usize {
     match v {
-        Verdict::Accepted(f) => show_figures(f),
-        Verdict::Refused(q) => show_refusal(q),
+        Verdict::Accepted(f) => put_figures(line, f),
+        Verdict::Refused(q) => put_refusal(line, q),
     }
-    say(b"\n");
 }
 
 // What the check says.
 fn check<'a>(case: &[u8], facts: &'a [u8], query: &'a [u8]) {
+    let mut line = [0u8; 256];
     show_case(case, query);
     let c = engine::check(facts, query);
     let v = c.verdict;
-    show_verdict(v);
+    let n = put_verdict(&mut line, v);
+    write_line(&mut line, n);
 }
 
 // A run with room enough.

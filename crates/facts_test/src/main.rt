@@ -2,20 +2,35 @@
 // document 01's own limits, below, at and above each.
 use facts::FactsRead;
 use facts::read_facts;
-use listing::next_number;
-use listing::say;
-use listing::show_refusal;
+use libc::STDOUT_FILENO;
+use lines::put;
+use lines::put_text;
+use page::put_number;
+use page::put_refusal;
+use parts::part;
+
+// Ends the line at place n and writes it.
+fn write_line(line: &mut [u8], n: usize) {
+    let end = put(line, n, 10, true);
+    io::write_all(STDOUT_FILENO, part(line, 0, end));
+}
+
+fn put_read(line: &mut [u8], f: FactsRead) -> usize {
+    match f {
+        FactsRead::Given(c) => {
+            let p = put_text(line, 0, b"given", true);
+            let m = put_number(line, p, c.relations as u64);
+            put_number(line, m, c.elements as u64)
+        }
+        FactsRead::Refused(q) => put_refusal(line, q),
+    }
+}
 
 fn show_read(facts: &[u8], relations: &mut [usize], universe: &mut [usize]) {
-    match read_facts(facts, facts, relations, universe) {
-        FactsRead::Given(c) => {
-            say(b"given");
-            next_number(c.relations as u64);
-            next_number(c.elements as u64);
-        }
-        FactsRead::Refused(q) => show_refusal(q),
-    }
-    say(b"\n");
+    let mut line = [0u8; 256];
+    let f = read_facts(facts, facts, relations, universe);
+    let n = put_read(&mut line, f);
+    write_line(&mut line, n);
 }
 
 fn show(facts: &[u8]) {

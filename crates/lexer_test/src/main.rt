@@ -2,32 +2,46 @@
 // text of each token, or the row and the place of the refusal.
 use lexer::Lexed;
 use lexer::lex;
+use libc::STDOUT_FILENO;
+use lines::put;
 use listing::Item;
-use listing::say;
-use listing::say_number;
-use listing::show_items;
-use listing::show_refusal;
+use listing::put_items;
+use page::put_digits;
+use page::put_refusal;
+use parts::part;
+
+// Ends the line at place n and writes it.
+fn write_line(line: &mut [u8], n: usize) {
+    let end = put(line, n, 10, true);
+    io::write_all(STDOUT_FILENO, part(line, 0, end));
+}
+
+// Puts the number of tokens, and as many of them as there are words.
+fn put_tokens(line: &mut [u8], l: Lexed, words: &[u64]) -> usize {
+    match l {
+        Lexed::Tokens(n) => {
+            let p = put_digits(line, 0, n as u64, 10);
+            put_items(line, p, Item::Token, words, n)
+        }
+        Lexed::Refused(q) => put_refusal(line, q),
+    }
+}
 
 fn show(query: &[u8]) {
+    let mut line = [0u8; 512];
     let mut words = [0u64; 2048];
-    match lex(query, &mut words) {
-        Lexed::Tokens(n) => {
-            say_number(n as u64);
-            show_items(Item::Token, &words, n);
-        }
-        Lexed::Refused(q) => show_refusal(q),
-    }
-    say(b"\n");
+    let l = lex(query, &mut words);
+    let n = put_tokens(&mut line, l, &words);
+    write_line(&mut line, n);
 }
 
 // How many tokens only.
 fn show_count(query: &[u8]) {
+    let mut line = [0u8; 512];
     let mut words = [0u64; 2048];
-    match lex(query, &mut words) {
-        Lexed::Tokens(n) => say_number(n as u64),
-        Lexed::Refused(q) => show_refusal(q),
-    }
-    say(b"\n");
+    let l = lex(query, &mut words);
+    let n = put_tokens(&mut line, l, &words[..0]);
+    write_line(&mut line, n);
 }
 
 // Names, reserved words, strings and marks.

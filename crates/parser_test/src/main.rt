@@ -1,26 +1,40 @@
 // Prints the words that worked queries give: a line for each, with the number of tokens and of words and then kind and three fields of each
 // word, or the row and the place of the refusal.
+use libc::STDOUT_FILENO;
+use lines::put;
 use listing::Item;
-use listing::next_number;
-use listing::say;
-use listing::say_number;
-use listing::show_items;
-use listing::show_refusal;
+use listing::put_items;
+use page::put_digits;
+use page::put_number;
+use page::put_refusal;
 use parser::QueryRead;
 use parser::read_query;
+use parts::part;
+
+// Ends the line at place n and writes it.
+fn write_line(line: &mut [u8], n: usize) {
+    let end = put(line, n, 10, true);
+    io::write_all(STDOUT_FILENO, part(line, 0, end));
+}
+
+fn put_read(line: &mut [u8], r: QueryRead, words: &[u64]) -> usize {
+    match r {
+        QueryRead::Read(t, m) => {
+            let p = put_digits(line, 0, t as u64, 10);
+            let w = put_number(line, p, m as u64);
+            put_items(line, w, Item::Word, words, m)
+        }
+        QueryRead::Refused(q) => put_refusal(line, q),
+    }
+}
 
 fn show(query: &[u8]) {
+    let mut line = [0u8; 512];
     let mut tokens = [0u64; 2048];
     let mut words = [0u64; 2048];
-    match read_query(query, &mut tokens, &mut words) {
-        QueryRead::Read(t, m) => {
-            say_number(t as u64);
-            next_number(m as u64);
-            show_items(Item::Word, &words, m);
-        }
-        QueryRead::Refused(q) => show_refusal(q),
-    }
-    say(b"\n");
+    let r = read_query(query, &mut tokens, &mut words);
+    let n = put_read(&mut line, r, &words);
+    write_line(&mut line, n);
 }
 
 // Assignments and PRINT.

@@ -1,0 +1,2 @@
+-- What the test programs print of lists.
+pub mod Listed
