@@ -3,9 +3,9 @@
 --   words          word-name-rule word-string-rule no-word!
 --   items          labelled-rule endl-rule; more-items-rule end-items!
 --   by the next two tokens: item-name! item-string! (s alone); item-call-rule item-sign-rule item-string-rule, item-rule at any other token (an expression)
---   statements     left-side-rule, with becomes-rule or alone-rule or no-left-end! for what follows `R(t,..)`; conditional-rule while-rule for-rule nested-rule print-rule; no-statement!
+--   statements     left-side-rule, with becomes-rule or alone-rule or no-left-end! for what follows `R(t,..)`; conditional-rule while-rule for-rule print-rule, `{..}` by block-rule (statements: BlockLaws); no-statement!
 --   blocks, ELSE   block-rule no-block!; else-rule no-else!
---   programs       program-rule; more-statements-rule end-statements!; AnswerLaws has the end: program-read program-left program-fails
+--   programs       program-rule; more-statements-rule end-statements!; at the end: top-read (GrammarTop), program-left program-fails (AnswerLaws)
 use Prim.Native.Nat.{ℕ, _≤_}
 use mathlib.Core.List.{List, [], _∷_}
 use mathlib.Core.Bool.{Bool, true, false, _||_}
