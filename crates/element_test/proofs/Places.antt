@@ -3,7 +3,7 @@ use Prim.Native.Nat.{ℕ}
 use mathlib.Core.Path.{_≡_, ap, _∙_}
 use Rattle.definition.specs.Text.{Text}
 use Rattle.definition.specs.Limits.{document-01}
-use Rattle.definition.specs.Calls.{part-text, element}
+use Rattle.definition.specs.Calls.{Part, part-text, element}
 use Rattle.element.specs.Addresses.{address}
 use Rattle.element_test.specs.Worked.{part, Is}
 
@@ -18,3 +18,7 @@ module _ {facts query value : Text} {n text offset : ℕ} (h : Is facts query n 
   -- its address
   pub address-is : (f q : ℕ × ℕ) {r : ℕ × ℕ} → r ≡ address f q (element document-01 facts query n) → r ≡ address f q (part text offset value)
   address-is f q e = e ∙ ap (address f q) (h .place)
+
+  -- the number of its text
+  pub text-is : element document-01 facts query n .text ≡ text
+  text-is = ap (λ (p : Part). p .text) (h .place)

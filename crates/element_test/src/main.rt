@@ -3,10 +3,13 @@ ghost use Prim.Native.Nat.{_+_, _≤_};
 ghost use mathlib.Core.Path.{_≡_};
 ghost use denote.Ref.{ptr};
 ghost use lib.ListN.{length, take, drop};
+ghost use Rattle.definition.specs.Limits.{document-01};
+ghost use Rattle.definition.specs.Calls as Calls;
 ghost use Rattle.element_test.specs.Worked.{Is};
 use check::expect;
 use check::same;
 use element::element;
+use element::word_of;
 
 // `part` is the n bytes of the text from the offset on, at their own address: that is proved alone, since no program can ask for it.
 fn is_part<'a>(part: &'a [u8], text: &'a [u8], offset: usize, n: usize)
@@ -17,6 +20,13 @@ fn is_part<'a>(part: &'a [u8], text: &'a [u8], offset: usize, n: usize)
     expect(same(part, &text[offset..offset + n]));
 }
 
+// The word of element n, from which hosts get their answer, has the number of its text: 0 is the facts, 1 the query.
+fn has_text<'a>(facts: &'a [u8], query: &'a [u8], n: usize, text: usize)
+    requires { ⌜ Calls.element document-01 (now facts) (now query) n .text ≡ text ⌝ }
+{
+    expect(word_of(facts, query, n) / 4 % 2 == text);
+}
+
 // Element n is `value`, in the facts from the offset on.
 fn in_facts<'a>(facts: &'a [u8], query: &'a [u8], n: usize, offset: usize, value: &[u8])
     requires { ⌜ Is (now facts) (now query) n 0 offset (now value) ⌝ }
@@ -24,6 +34,7 @@ fn in_facts<'a>(facts: &'a [u8], query: &'a [u8], n: usize, offset: usize, value
     let part = element(facts, query, n);
     expect(same(part, value));
     is_part(part, facts, offset, value.len());
+    has_text(facts, query, n, 0);
 }
 
 // Element n is `value`, in the query from the offset on.
@@ -33,6 +44,7 @@ fn in_query<'a>(facts: &'a [u8], query: &'a [u8], n: usize, offset: usize, value
     let part = element(facts, query, n);
     expect(same(part, value));
     is_part(part, query, offset, value.len());
+    has_text(facts, query, n, 1);
 }
 
 // "as a part of the facts (first occurrence), or of the query if no fact holds it"; "For other n" the empty part at the query's start

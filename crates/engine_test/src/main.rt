@@ -1,12 +1,16 @@
-// Runs the worked cases of document 01 and texts that are refused, each with its own budget, store and output, and prints the case's letter or
-// the row with the query, and then what the calls answer.
+// Runs the worked cases of document 01, texts that a wrong engine would answer otherwise and texts that are refused, each with its own
+// budget, store and output. Prints the case's letter, what the text is for or the row, with the query; then what the calls answer and how
+// many bytes of the output are as they were lent.
+use definition::Checked;
 use definition::Figures;
 use definition::Ran;
+use definition::Record;
 use definition::Stopped;
 use definition::Verdict;
 use libc::STDOUT_FILENO;
 use lines::put;
 use lines::put_text;
+use listing::untouched;
 use page::put_ending;
 use page::put_number;
 use page::put_refusal;
@@ -36,7 +40,9 @@ fn put_run(line: &mut [u8], r: Ran) -> usize {
 fn run_in<'a>(facts: &'a [u8], query: &'a [u8], budget: u32, store: &mut [u64], output: &mut [u8]) {
     let mut line = [0u8; 256];
     let r = engine::run(facts, query, budget, store, output);
-    let n = put_run(&mut line, r);
+    let p = put_run(&mut line, r);
+    let q = put(&mut line, p, b',', true);
+    let n = put_number(&mut line, q, untouched(output) as u64);
     write_line(&mut line, n);
     io::write_all(STDOUT_FILENO, part(output, 0, shown(r)));
 }
@@ -50,12 +56,12 @@ fn show_case(case: &[u8], query: &[u8]) {
     write_line(&mut line, n);
 }
 
-// A run in a store of so many words and an output of so many bytes, up to 256 each.
+// A run in a store of so many words, up to those of one relation of pairs over 64 elements, and an output of up to 256 bytes.
 fn run<'a>(case: &[u8], facts: &'a [u8], query: &'a [u8], budget: u32, words: usize, room: usize) {
-    let mut store = [7u64; 256];
-    let mut output = [7u8; 256];
+    let mut store = [7u64; 1152];
+    let mut output = [255u8; 256];
     show_case(case, query);
-    if 256 < words {
+    if 1152 < words {
         return;
     }
     if 256 < room {
@@ -84,13 +90,32 @@ fn put_verdict(line: &mut [u8], v: Verdict) -> usize {
     }
 }
 
+// A record: text, offset, length, arity and first word.
+fn put_record(line: &mut [u8], at: usize, r: Record) -> usize {
+    let p = put(line, at, b',', true);
+    let t = put_number(line, p, r.text as u64);
+    let o = put_number(line, t, r.offset as u64);
+    let n = put_number(line, o, r.length as u64);
+    let k = put_number(line, n, r.arity as u64);
+    put_number(line, k, r.first as u64)
+}
+
+// The verdict and all records, unused ones too.
+fn put_checked(line: &mut [u8], c: Checked) -> usize {
+    let v = c.verdict;
+    let rs = c.records;
+    let mut n = put_verdict(line, v);
+    for i in 0..16 {
+        n = put_record(line, n, rs[i]);
+    }
+    n
+}
+
 // What the check says.
 fn check<'a>(case: &[u8], facts: &'a [u8], query: &'a [u8]) {
     let mut line = [0u8; 256];
     show_case(case, query);
-    let c = engine::check(facts, query);
-    let v = c.verdict;
-    let n = put_verdict(&mut line, v);
+    let n = put_checked(&mut line, engine::check(facts, query));
     write_line(&mut line, n);
 }
 
@@ -143,6 +168,56 @@ fn statements<'a>(facts: &'a [u8]) {
     run_all(b"L", facts, b"WHILE TRUE() { P(); }");
 }
 
+// "Also wrong: a FOR that re-reads its set, an inner EX that spoils the outer attribute's value"; B is the TC without a cycle.
+fn also_wrong<'a>(facts: &'a [u8]) {
+    run_all(
+        b"a set read again",
+        facts,
+        b"FOR c IN On(x,_) { On(x,y) := FALSE(x,y); PRINT c, ENDL; }",
+    );
+    run_all(
+        b"an inner EX that spoils",
+        facts,
+        b"IF EX(x, EX(y, On(x,y) & On(y,\"C2\"))) { PRINT \"yes\", ENDL; }",
+    );
+}
+
+// Each has rows that a wrong filter, sign or comparison would lose, or give.
+fn rows<'a>(facts: &'a [u8]) {
+    run_all(b"either side", facts, b"PRINT On(x,y) | On(y,x);");
+    run_all(b"at most itself", facts, b"PRINT Held(x) & x <= \"B7\";");
+    run_all(
+        b"hides outer attributes",
+        facts,
+        b"PRINT Held(x) & (On(x,_) <= Held(x));",
+    );
+    run_all(
+        b"FALSE",
+        facts,
+        b"IF FALSE() { PRINT \"yes\"; } ELSE { PRINT \"no\", ENDL; }",
+    );
+    run_all(
+        b"two loops",
+        facts,
+        b"FOR a IN Held(x) { FOR b IN On(a,x) { PRINT a, \" \", b, ENDL; } }",
+    );
+    run_all(b"three columns", b"T a b c\n", b"PRINT T(x,y,z);");
+}
+
+// A PRINT of four bytes, in a store of just the words needed.
+fn room() {
+    run(b"room for all", b"R a\nR b\n", b"PRINT R(x);", 1, 34, 4);
+    run(b"one byte short", b"R a\nR b\n", b"PRINT R(x);", 1, 34, 3);
+}
+
+// 64 elements, the last of which is `~`: the last bit of a word; and one more.
+fn all_elements() {
+    let facts =
+        b"R 0 1\nR 2 3\nR 4 5\nR 6 7\nR 8 9\nR A B\nR C D\nR E F\nR G H\nR I J\nR K L\nR M N\nR O P\nR Q R\nR S T\nR U V\nR W X\nR Y Z\nR _ a\nR b c\nR d e\nR f g\nR h i\nR j k\nR l m\nR n o\nR p q\nR r s\nR t u\nR v w\nR x y\nR z ~\n";
+    run(b"element 63", facts, b"PRINT x = \"~\";", 1, 1152, 256);
+    run(b"row 7", facts, b"P(\"new\");", 1, 1152, 256);
+}
+
 fn facts_refused() {
     run_all(b"row 2", b"R a\x01\n", b"P();");
     run_all(b"row 3", b"R a\n1x\n", b"P();");
@@ -156,6 +231,18 @@ fn query_refused<'a>(facts: &'a [u8]) {
     run_all(b"row 11", facts, b"PRINT On(Held,x);");
     run_all(b"row 12", facts, b"P(x) := On(x,y);");
     run_all(b"row 5", facts, b"P(x) := On(x);");
+    run_all(b"row 5", facts, b"PRINT Held(x,y);");
+}
+
+// One more than document 01's limits on relations, printed columns and attributes.
+fn limits<'a>(facts: &'a [u8]) {
+    run_all(
+        b"row 6",
+        b"",
+        b"A();B();C();D();E();F();G();H();I();J();K();L();M();N();O();P();Q();",
+    );
+    run_all(b"row 12", facts, b"PRINT On(w,x) & On(y,z);");
+    run_all(b"row 13", facts, b"PRINT EX(a,b,c,d,e, On(a,b));");
 }
 
 fn main() {
@@ -163,6 +250,11 @@ fn main() {
     closures(f, b"Dep(x,y) := TC(On(x,y)); PRINT [\"Dep\"] Dep(x,y);");
     expressions(f);
     statements(f);
+    also_wrong(f);
+    rows(f);
+    room();
+    all_elements();
     facts_refused();
     query_refused(f);
+    limits(f);
 }

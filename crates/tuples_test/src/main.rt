@@ -44,8 +44,14 @@ fn numbered() {
     expect(t[2] == 3);
 }
 
+// Words of which one differs are told apart.
+fn apart() {
+    expect(same_words(&[1u64, 4], &[1u64, 12]) == false);
+}
+
 fn main() {
     loaded();
+    apart();
     triple();
     numbered();
 }

@@ -1,6 +1,6 @@
 use borrow.Author.Needs.{needs}
 use denote.Ref.{ptr}
-use Rattle.element_test.proofs.Places.{part-is, value-is, address-is}
+use Rattle.element_test.proofs.Places.{part-is, value-is, address-is, text-is}
 use Rattle.element_test.proofs.in_facts.Statement.{statement}
 use Rattle.element_test.proofs.in_facts.Tie as tie
 
@@ -12,6 +12,9 @@ is-part-requires c κs =
     let s = c .before .before .before .before .before .before in
     let e = c .before .before .element .ensures in (s .pre .inside, (part-is (s .pre) (e .0), address-is (s .pre) (ptr (s .args .facts)) (ptr (s .args .query)) (e .1)))
 
+has-text-requires : tie.Need-has-text-requires
+has-text-requires c κs = text-is (c .before .before .before .before .before .before .before .pre)
+
 pub in-facts-spec : {M : Type 1} → statement M
 in-facts-spec =
     tie.close
@@ -20,4 +23,5 @@ in-facts-spec =
     (λ c κs. search needs)
     expect-requires
     is-part-requires
+    has-text-requires
     (λ c. search needs))
