@@ -56,6 +56,7 @@ QUERIES = {
 }
 NOT = "\\+"  # as SWI-Prolog writes it
 DEPTHS = [(64, range(1, 5)), (8, range(1, 8))]
+LENGTH = 32768  # bytes of facts
 LIMIT = 2  # seconds: nested quantifiers that take longer are not measured
 
 
@@ -218,7 +219,20 @@ def nested():
     )
 
 
+def reading():
+    """Facts at the length limit, and the same lines with LF and with CR LF. `PRINT ENDL;` asks for nothing, so a run reads them twice."""
+    query = file("query.rml", "PRINT ENDL;")
+    rows = []
+    for name, end, count in (("LF", "\n", LENGTH // 11), ("LF", "\n", LENGTH // 12), ("CR LF", "\r\n", LENGTH // 12)):
+        text = "".join(f"On e{i % 64:02d} e{i * 7 % 61:02d}{end}" for i in range(count))
+        (check, run), _ = program(os.path.join(to, "relcalc"), file("long.rsf", text), query)
+        rows.append([name, f"{count:,}", f"{len(text):,}", f"{check:,.1f}", f"{run:,.1f}"])
+    table(["line ends", "lines", "bytes", "check", "run"], rows)
+
+
 print(f"SQLite {sqlite3.sqlite_version}, Python {sys.version.split()[0]}; shortest times in microseconds\n")
 compared()
 print()
 nested()
+print()
+reading()

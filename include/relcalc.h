@@ -10,7 +10,9 @@
    - A store, output or buffer overlaps nothing else that is lent. Texts may overlap, and may be the same.
    - Until the call returns nobody writes to what is lent, nor reads what is lent for writing.
 
-   Offsets count bytes from 0. Elements are numbered from 0 in byte order, a prefix first. */
+   A line of facts ends at byte 10 or at the text's end; one byte 13 directly before either belongs to the line end, so facts may be
+   saved with LF or CR LF. A query has no byte 13. Lengths and offsets count every byte of a text as it is lent, offsets from 0.
+   Elements are numbered from 0 in byte order, a prefix first. */
 #ifndef RELCALC_H
 #define RELCALC_H
 
@@ -41,7 +43,7 @@ extern "C" {
    12 by statement; 7; 14. So a refusal 5, 6 or 7 is one of the facts exactly where the facts with an empty query have it too. */
 enum {
     RELCALC_FACTS_TOO_LONG = 1,      /* 32768: facts over 32,768 bytes */
-    RELCALC_FACT_BYTE = 2,           /* the byte: in the lines read, not 9, 10 or 32..126 */
+    RELCALC_FACT_BYTE = 2,           /* the byte: in the lines read, not 9, 10 or 32..126, and no 13 that belongs to a line end */
     RELCALC_FACT_NAME = 3,           /* the line: it does not start with a relation name (a letter or "_", then letters, digits and "_",
                                         1 to 32 bytes, not "_" alone, not reserved) */
     RELCALC_FACT_ELEMENT = 4,        /* the element: a stray or open quote, a non-blank after a closing one, over 32 bytes */

@@ -1,4 +1,4 @@
-/* The calls from C: the worked example, refusals, null and equal texts, the largest sizes, a small stack. */
+/* The calls from C: the worked example, facts saved with CR LF, refusals, null and equal texts, the largest sizes, a small stack. */
 #define _POSIX_C_SOURCE 200809L
 #include "lent.h"
 #include "relcalc.h"
@@ -8,6 +8,7 @@
 #include <string.h>
 
 static const char F[] = "On C10 C5\nOn C5 C2\nOn B7 C10\nHeld B7\n";
+static const char F_cr_lf[] = "On C10 C5\r\nOn C5 C2\r\nOn B7 C10\r\nHeld B7\r\n";
 static const char Q[] = "Dep(x,y) := TC(On(x,y)); PRINT [\"Dep\"] Dep(x,y);";
 static const char page[] = "Dep B7 C10\nDep B7 C2\nDep B7 C5\nDep C10 C2\nDep C10 C5\nDep C5 C2\n";
 static uint64_t store[RELCALC_STORE_WORDS];
@@ -85,11 +86,77 @@ static void worked_example(void)
     EXPECT(chain(F, "Held", "B7", "C2", numbers, 65).refusal == RELCALC_NOT_IN_FACTS);
 }
 
+static void facts_with_cr_lf(void)
+{
+    relcalc_checked c = check(F_cr_lf, Q);
+    EXPECT(!c.refusal && !c.place && c.universe == 4 && c.words == 77 && c.relations == 3);
+    EXPECT(!memcmp(&c.records[0], &(relcalc_record){0, 0, 2, 2, 0}, sizeof c.records[0]));
+    EXPECT(!memcmp(&c.records[1], &(relcalc_record){0, 32, 4, 1, 4}, sizeof c.records[0]));
+    EXPECT(!memcmp(&c.records[2], &(relcalc_record){1, 0, 3, 2, 5}, sizeof c.records[0]));
+    static const uint64_t tables[] = {2, 8, 0, 4, 1, 14, 12, 0, 4};
+    memset(store, 7, sizeof store), memset(output, 7, sizeof output);
+    EXPECT(ended(run(F_cr_lf, Q, 1000000, store, 77, output, 64), RELCALC_DONE, 2, 63));
+    EXPECT(!memcmp(output, page, 63) && output[63] == 7);
+    EXPECT(!memcmp(store, tables, sizeof tables) && store[9] == 0 && store[76] == 0);
+    EXPECT(is_part(element(F_cr_lf, Q, 0), RELCALC_IN_FACTS, 24, 2));
+    EXPECT(is_part(element(F_cr_lf, Q, 2), RELCALC_IN_FACTS, 17, 2));
+    EXPECT(is_part(element(F_cr_lf, Q, 3), RELCALC_IN_FACTS, 7, 2));
+    uint8_t numbers[65] = {0, 0, 0, 0, 9};
+    EXPECT(chain(F_cr_lf, "On", "B7", "C2", numbers, 65).count == 4 && !memcmp(numbers, "\0\1\3\2\t", 5));
+}
+
+static int checked(const char *f, const char *q, uint64_t refusal, uint64_t place, uint64_t universe)
+{
+    relcalc_checked c = check(f, q);
+    return c.refusal == refusal && c.place == place && c.universe == universe;
+}
+
+static void line_ends(void)
+{
+    static char lines[32770];
+    static const char q[] = "PRINT ENDL;";
+    EXPECT(checked("\r", q, 0, 0, 0));
+    EXPECT(checked("Held B7\n\r", q, 0, 0, 1));
+    EXPECT(checked("Held B7\nHeld \"C2\"\r\n\r\n# a\r\nHeld C5 \r", q, 0, 0, 3));
+    EXPECT(checked("Held B7\r\n.\rx\r\r\n", q, 0, 0, 1));
+    EXPECT(checked("Held aaaabbbbccccddddeeeeffffgggghhhh\r\n", q, 0, 0, 1));
+    EXPECT(checked("Held aaaabbbbccccddddeeeeffffgggghhhhi\r\n", q, RELCALC_FACT_ELEMENT, 5, 0));
+    EXPECT(checked("Held \"B7\r\n", q, RELCALC_FACT_ELEMENT, 5, 0));
+    EXPECT(checked("Held B7\r\nHeld \xC8\r\n", q, RELCALC_FACT_BYTE, 14, 0));
+    for (int i = 0; i < 32768; i += 2)
+        lines[i] = '\r', lines[i + 1] = '\n';
+    EXPECT(checked(lines, q, 0, 0, 0));
+    lines[32768] = '\r';
+    EXPECT(checked(lines, q, RELCALC_FACTS_TOO_LONG, 32768, 0));
+}
+
+static void returns_elsewhere(void)
+{
+    static const char q[] = "PRINT ENDL;";
+    EXPECT(checked("On C\r10 C5\r\n", q, RELCALC_FACT_BYTE, 4, 0));
+    EXPECT(checked("Held B7\r\r\n", q, RELCALC_FACT_BYTE, 7, 0));
+    EXPECT(checked("Held B7\r\r", q, RELCALC_FACT_BYTE, 7, 0));
+    EXPECT(checked("Held B7\rHeld C2\r", q, RELCALC_FACT_BYTE, 7, 0));
+    EXPECT(checked("Held B7\r.", q, RELCALC_FACT_BYTE, 7, 0));
+    EXPECT(checked("# a\rb\n", q, RELCALC_FACT_BYTE, 3, 0));
+    EXPECT(checked("Held \"a\rb\"\n", q, RELCALC_FACT_BYTE, 7, 0));
+    EXPECT(checked(" Held\nOn a\rb c\n", q, RELCALC_FACT_BYTE, 10, 0));
+    EXPECT(checked(F, "PRINT Held(x);\r\n", RELCALC_NO_TOKEN, 14, 0));
+    EXPECT(checked(F, "// a\r\nPRINT ENDL;", RELCALC_NO_TOKEN, 4, 0));
+    EXPECT(checked(F, "PRINT \"a\rb\";", RELCALC_NO_TOKEN, 8, 0));
+    EXPECT(checked(F, "PRINT ENDL;\r", RELCALC_NO_TOKEN, 11, 0));
+    uint8_t numbers[65] = {9, 9};
+    relcalc_chained c = chain("On C5\r C2\n", "On", "C5", "C2", numbers, 65);
+    EXPECT(c.refusal == RELCALC_FACT_BYTE && c.place == 5 && !c.count && numbers[0] == 9 && numbers[1] == 9);
+}
+
 static void refusals(void)
 {
     memset(store, 7, sizeof store), memset(output, 7, sizeof output);
     EXPECT(refused(run(F, Q, 9, store, 76, output, 64), RELCALC_STORE_SHORT, 77));
     EXPECT(refused(run(F, "PRINT On(x,y)", 9, store, 76, output, 64), RELCALC_NO_PROGRAM, 13));
+    EXPECT(refused(run("Held B7\r\r\n", "PRINT ENDL;", 9, store, 76, output, 64), RELCALC_FACT_BYTE, 7));
+    EXPECT(refused(run(F, "PRINT ENDL;\r\n", 9, store, 76, output, 64), RELCALC_NO_TOKEN, 11));
     int same = 1;
     for (size_t i = 0; i < 76; i++)
         same &= store[i] == 0x0707070707070707;
@@ -192,6 +259,9 @@ static void small_stack(void)
 int main(void)
 {
     worked_example();
+    facts_with_cr_lf();
+    line_ends();
+    returns_elsewhere();
     refusals();
     empty_and_equal();
     largest_sizes();

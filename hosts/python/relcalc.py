@@ -51,7 +51,7 @@ class Refusal(enum.Enum):
 
 RULES = {
     Refusal.FACTS_TOO_LONG: "facts have at most 32,768 bytes",
-    Refusal.FACT_BYTE: "a byte of the facts is 9, 10 or 32 to 126",
+    Refusal.FACT_BYTE: "a byte of the facts is 9, 10 or 32 to 126, or one CR (13) directly before an LF (10) or as the text's last byte",
     Refusal.FACT_NAME: "a fact starts with a relation name at the line's first byte: a letter or underscore, then letters, digits, "
     'underscores, 1 to 32 bytes, not "_" alone and not reserved',
     Refusal.FACT_ELEMENT: "an element has at most 32 bytes, no quote inside, and a closing quote followed by a blank or the line's end "
@@ -61,7 +61,7 @@ RULES = {
     Refusal.TOO_MANY_ELEMENTS: "facts and left-hand sides have at most 64 elements",
     Refusal.QUERY_TOO_LONG: "a query has at most 16,384 bytes",
     Refusal.NO_TOKEN: "a token starts here that is none, is over 32 bytes, or is a string or comment left open; or a byte is not 9, 10 "
-    "or 32 to 126",
+    "or 32 to 126: a query's lines end in LF (10), not in CR LF (13, 10)",
     Refusal.NO_PROGRAM: "the tokens up to here begin no program",
     Refusal.KIND: "a name has one kind (relation, attribute, loop variable) throughout, its place takes that kind, and a loop variable "
     "stands in its loop's block only and is not bound again there",
@@ -121,7 +121,10 @@ class Ran:
 
 @dataclass(frozen=True)
 class At:
-    """A place in a text: line and column from 1, what stands there, and the line around it with the caret's column."""
+    """A place in a text: line and column from 1, what stands there, and the line around it with the caret's column.
+
+    A line end, with or without its 13, is one past the line.
+    """
 
     text: Text
     line: int
@@ -143,8 +146,8 @@ class Explained:
         number = self.refused.refusal.value
         if self.at is None:
             return f"refused {number} ({self.refused.place}): {self.rule}"
-        found = f"`{_plain(self.at.found)}`" if self.at.found else "end of text"
-        head = f"{self.at.text.name.lower()}:{self.at.line}:{self.at.column}: refused {number} at {found}: {self.rule}"
+        place = f"{self.at.text.name.lower()}:{self.at.line}:{self.at.column}"
+        head = f"{place}: refused {number} at {_named(self.at.found)}: {self.rule}"
         return f"{head}\n  {_plain(self.at.shown)}\n  {' ' * self.at.caret}^"
 
 
@@ -267,42 +270,63 @@ def _run_of(text, start, ends):
     return next((i for i in range(start, len(text)) if text[i] in ends), len(text))
 
 
-def _string(text):
-    """The end of the string at a text's start: after its closing quote, or at the line's end."""
-    end = _run_of(text, 1, b'"\n')
-    return end + (text[end : end + 1] == b'"')
+def _string(rest):
+    """The end of the string at the start of a line's rest: after its closing quote, or at the line's end."""
+    end = _run_of(rest, 1, b'"')
+    return end + (rest[end : end + 1] == b'"')
 
 
-def _word(text):
-    """The end of the name or element at a text's start."""
-    return _run_of(text, _string(text) if text[:1] == b'"' else 0, b" \t\n")
+def _word(rest):
+    """The end of the name or element at the start of a line's rest."""
+    return _run_of(rest, _string(rest) if rest[:1] == b'"' else 0, b" \t")
 
 
-def _token(text):
-    """The end of the token at a text's start."""
-    if text[:1] == b'"':
-        return _string(text)
-    name = next((i for i, b in enumerate(text) if not (chr(b).isalnum() and b < 128) and b != ord("_")), len(text))
-    if name and not text[:1].isdigit():
+def _token(rest):
+    """The end of the token at the start of a line's rest."""
+    if rest[:1] == b'"':
+        return _string(rest)
+    name = next((i for i, b in enumerate(rest) if not (chr(b).isalnum() and b < 128) and b != ord("_")), len(rest))
+    if name and not rest[:1].isdigit():
         return name
     marks = (b"<->", b"->", b"<=", b">=", b"!=", b":=", b"/*")
-    return next((len(m) for m in marks if text.startswith(m)), 1)
+    return next((len(m) for m in marks if rest.startswith(m)), 1)
+
+
+def _line(text, place):
+    """Where the line around a place begins and ends. The 13s before its byte 10 are no part of it."""
+    start = text.rfind(b"\n", 0, place) + 1
+    line = text[start : _run_of(text, place, b"\n")]
+    return start, start + len(line.rstrip(b"\r"))
 
 
 def _at(refused, which, text):
     place = min(refused.place, len(text))
-    start = text.rfind(b"\n", 0, place) + 1
-    end = _run_of(text, place, b"\n")
-    rest = text[place:]
+    start, end = _line(text, place)
+    # a 13 of the line end is shown where it is the refused byte
+    if refused.refusal in (Refusal.FACT_BYTE, Refusal.NO_TOKEN) and text.startswith(b"\r", place):
+        end = max(end, place + 1)
+    # what is behind it is seen at the line's end
+    seen = min(place, end)
     if refused.refusal in (Refusal.FACTS_TOO_LONG, Refusal.FACT_BYTE, Refusal.QUERY_TOO_LONG):
         length = 1
     else:
-        length = max(_word(rest), 1) if which is Text.FACTS else _token(rest)
-    first = max(start, place - BEFORE)
-    shown = text[first : min(end, place + AFTER)]
-    return At(which, text.count(b"\n", 0, place) + 1, place - start + 1, rest[:length], shown, place - first)
+        length = _word(text[seen:end]) if which is Text.FACTS else _token(text[seen:end])
+    found = text[place : place + max(length, 1)]
+    # a 13 before the place, as rows 1 and 8 can have it, is not shown
+    first = max(start, seen - BEFORE, text.rfind(b"\r", start, seen) + 1)
+    shown = text[first : min(end, seen + AFTER)]
+    return At(which, text.count(b"\n", 0, place) + 1, seen - start + 1, found, shown, seen - first)
 
 
 def _plain(text):
     """A text's bytes for the eye, one character each."""
     return "".join(chr(b) if 32 <= b < 127 else " " if b == 9 else "?" for b in text)
+
+
+def _named(found):
+    """What was found, for the eye: a single byte that has no sign by its number."""
+    if not found:
+        return "end of text"
+    if len(found) == 1 and not 32 <= found[0] < 127:
+        return f"byte {found[0]}"
+    return f"`{_plain(found)}`"

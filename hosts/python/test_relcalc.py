@@ -1,4 +1,4 @@
-"""The wrapper over the shared object: the worked example, refusals, empty and equal texts, the largest sizes."""
+"""The wrapper over the shared object: the worked example, facts saved with CR LF, refusals, empty and equal texts, the largest sizes."""
 import os
 import re
 import sys
@@ -7,6 +7,7 @@ import unittest
 from relcalc import CHAIN_BYTES, STORE_WORDS, Ending, Part, Refusal, Refused, Relcalc, Text
 
 FACTS = b"On C10 C5\nOn C5 C2\nOn B7 C10\nHeld B7\n"
+FACTS_CR_LF = b"On C10 C5\r\nOn C5 C2\r\nOn B7 C10\r\nHeld B7\r\n"
 QUERY = b'Dep(x,y) := TC(On(x,y)); PRINT ["Dep"] Dep(x,y);'
 PAGE = b"Dep B7 C10\nDep B7 C2\nDep B7 C5\nDep C10 C2\nDep C10 C5\nDep C5 C2\n"
 GUIDE = os.path.join(os.path.dirname(os.path.abspath(__file__)), "..", "..", "docs", "QUERIES.md")
@@ -61,10 +62,54 @@ class Host(unittest.TestCase):
         self.refused(Refusal.NOT_IN_FACTS, 0, rc.chain, FACTS, "Held", "C2", "B7")
         self.refused(Refusal.BUFFER_SHORT, 0, rc.chain, FACTS, "On", "B7", "C2", room=64)
 
+    def test_facts_with_cr_lf(self):
+        checked = rc.check(FACTS_CR_LF, QUERY)
+        self.assertEqual((checked.universe, checked.words), (4, 77))
+        relations = [(r.name.of(FACTS_CR_LF, QUERY), r.name.offset, r.arity, r.first) for r in checked.relations]
+        self.assertEqual(relations, [(b"On", 0, 2, 0), (b"Held", 32, 1, 4), (b"Dep", 0, 2, 5)])
+        ran = rc.run(FACTS_CR_LF, QUERY, words=77, room=100)
+        self.assertEqual((ran.ending, ran.steps, ran.output), (Ending.DONE, 2, PAGE))
+        self.assertEqual(ran.store, [2, 8, 0, 4, 1, 14, 12, 0, 4] + [0] * 68)
+        parts = [rc.element(FACTS_CR_LF, QUERY, n) for n in range(4)]
+        self.assertEqual(parts, [Part(Text.FACTS, *p) for p in [(24, 2), (3, 3), (17, 2), (7, 2)]])
+        self.assertEqual(rc.chain(FACTS_CR_LF, "On", "B7", "C2"), [0, 1, 3, 2])
+
+    def test_line_ends(self):
+        for universe, facts in [
+            (0, b"\r"),
+            (1, b"Held B7\n\r"),
+            (3, b'Held B7\nHeld "C2"\r\n\r\n# a\r\nHeld C5 \r'),
+            (1, b"Held B7\r\n.\rx\r\r\n"),
+            (1, b"Held aaaabbbbccccddddeeeeffffgggghhhh\r\n"),
+            (0, b"\r\n" * 16384),
+        ]:
+            self.assertEqual(rc.check(facts, b"PRINT ENDL;").universe, universe, facts)
+        self.refused(Refusal.FACT_ELEMENT, 5, rc.check, b"Held aaaabbbbccccddddeeeeffffgggghhhhi\r\n", b"PRINT ENDL;")
+        self.refused(Refusal.FACT_BYTE, 14, rc.check, b"Held B7\r\nHeld \xc8\r\n", b"PRINT ENDL;")
+        self.refused(Refusal.FACTS_TOO_LONG, 32768, rc.check, b"\r\n" * 16384 + b"\r", b"PRINT ENDL;")
+
+    def test_returns_elsewhere(self):
+        for place, facts in [
+            (4, b"On C\r10 C5\r\n"),
+            (7, b"Held B7\r\r\n"),
+            (7, b"Held B7\r\r"),
+            (7, b"Held B7\rHeld C2\r"),
+            (7, b"Held B7\r."),
+            (3, b"# a\rb\n"),
+            (7, b'Held "a\rb"\n'),
+            (10, b" Held\nOn a\rb c\n"),
+        ]:
+            self.refused(Refusal.FACT_BYTE, place, rc.check, facts, b"PRINT ENDL;")
+        for place, query in [(14, b"PRINT Held(x);\r\n"), (4, b"// a\r\nPRINT ENDL;"), (8, b'PRINT "a\rb";'), (11, b"PRINT ENDL;\r")]:
+            self.refused(Refusal.NO_TOKEN, place, rc.check, FACTS, query)
+        self.refused(Refusal.FACT_BYTE, 5, rc.chain, b"On C5\r C2\n", "On", "C5", "C2")
+
     def test_refusals(self):
         self.refused(Refusal.STORE_SHORT, 77, rc.run, FACTS, QUERY, words=76)
         self.refused(Refusal.NO_PROGRAM, 13, rc.run, FACTS, "PRINT On(x,y)")
         self.refused(Refusal.FACT_BYTE, 6, rc.check, "Held C\u00e9\n", QUERY)
+        self.refused(Refusal.FACT_BYTE, 7, rc.run, b"Held B7\r\r\n", QUERY)
+        self.refused(Refusal.NO_TOKEN, 11, rc.run, FACTS, b"PRINT ENDL;\r\n")
 
     def test_refusals_in_words(self):
         told = self.told(Refusal.FREE_ATTRIBUTES, 21, FACTS, b"P();\n\tPRINT On(x,y);\nHeld(x) := On(x,y);")
@@ -82,6 +127,51 @@ class Host(unittest.TestCase):
         self.assertEqual(told.at.column, 32769)
         told = rc.explain(Refused(Refusal.STORE_SHORT, 77), FACTS, QUERY)
         self.assertTrue(str(told).startswith("refused 14 (77): "), str(told))
+
+    def says(self, told, start, end):
+        self.assertTrue(str(told).startswith(start) and str(told).endswith(end), str(told))
+
+    def test_words_on_facts_with_cr_lf(self):
+        told = self.told(Refusal.FACT_NAME, 9, b"Held B7\r\nTRUE\r\n", QUERY)
+        self.says(told, "facts:2:1: refused 3 at `TRUE`: ", "\n  TRUE\n  ^")
+        told = self.told(Refusal.FACT_ELEMENT, 14, b'Held B7\r\nHeld "5Y\r\nHeld C2\r\n', QUERY)
+        self.says(told, 'facts:2:6: refused 4 at `"5Y`: ', '\n  Held "5Y\n       ^')
+        told = self.told(Refusal.ARITY, 17, b"Held B7\r\nHeld B7 C2\r\n", QUERY)
+        self.says(told, "facts:2:9: refused 5 at `C2`: ", "\n  Held B7 C2\n          ^")
+        told = self.told(Refusal.FACT_BYTE, 15, b"Held B7\r\nOn C10\r C2\r\n", QUERY)
+        rule = " or one CR (13) directly before an LF (10) or as the text's last byte"
+        self.says(told, "facts:2:7: refused 2 at byte 13: ", rule + "\n  On C10? C2\n        ^")
+
+    def test_words_on_refused_returns(self):
+        told = self.told(Refusal.FACT_BYTE, 7, b"Held B7\r\r\n", QUERY)
+        self.says(told, "facts:1:8: refused 2 at byte 13: ", "\n  Held B7?\n         ^")
+        told = self.told(Refusal.NO_TOKEN, 14, FACTS, b"PRINT Held(x);\r\nPRINT ENDL;\r\n")
+        rule = ": a query's lines end in LF (10), not in CR LF (13, 10)"
+        self.says(told, "query:1:15: refused 9 at byte 13: ", rule + "\n  PRINT Held(x);?\n                ^")
+        told = self.told(Refusal.NO_TOKEN, 6, FACTS, b'PRINT "5Y\r\n;')
+        self.says(told, 'query:1:7: refused 9 at `"5Y`: ', '\n  PRINT "5Y\n        ^')
+
+    def test_words_where_a_limit_meets_a_line_end(self):
+        for hashes, found in [(32767, b"\n"), (32768, b"\r")]:
+            at = self.told(Refusal.FACTS_TOO_LONG, 32768, b"#" * hashes + b"\r\n", QUERY).at
+            self.assertEqual((at.line, at.column, at.found, at.shown, at.caret), (1, hashes + 1, found, b"#" * 50, 50))
+        at = self.told(Refusal.FACTS_TOO_LONG, 32768, b"#" * 32766 + b"\r\r\n", QUERY).at
+        self.assertEqual((at.line, at.column, at.found, at.shown, at.caret), (1, 32767, b"\n", b"#" * 50, 50))
+        at = self.told(Refusal.FACTS_TOO_LONG, 32768, b"#" * 32760 + b"\rOn a b c d", QUERY).at
+        self.assertEqual((at.line, at.column, at.found, at.shown, at.caret), (1, 32769, b"c", b"On a b c d", 7))
+        for blanks, found in [(16383, b"\n"), (16384, b"\r")]:
+            at = self.told(Refusal.QUERY_TOO_LONG, 16384, FACTS, b" " * blanks + b"\r\n").at
+            self.assertEqual((at.line, at.column, at.found, at.shown, at.caret), (1, blanks + 1, found, b" " * 50, 50))
+
+    def test_words_on_any_text_and_place(self):
+        texts = [b"", b"\r", b"\n\r\n", b"a\r\nb\r", b'"\r\n"', b"\r\r\n"]
+        for row, text, place in [(r, t, p) for r in range(1, 14) for t in texts for p in range(len(t) + 2)]:
+            at = rc.explain(Refused(Refusal(row), place), text, text).at
+            self.assertEqual(at.found == b"", place >= len(text), (row, text, place))
+            self.assertTrue(at.caret <= len(at.shown) and b"\n" not in at.shown, (row, text, place))
+            self.assertNotIn(b"\r", at.shown[: at.caret], (row, text, place))
+        at = rc.explain(Refused(Refusal.FACT_NAME, 99), b"Held B7\r\nHeld C2\r").at
+        self.assertEqual((at.line, at.column, at.found, at.shown, at.caret), (2, 8, b"", b"Held C2", 7))
 
     def test_no_texts_and_lengths_0(self):
         self.refused(Refusal.NO_PROGRAM, 0, rc.check, None, None)

@@ -55,6 +55,8 @@ fn show_short(facts: &[u8], name: &[u8], first: &[u8], second: &[u8]) {
 fn worked(f: &[u8]) {
     show(f, b"On", b"B7", b"C2");
     show(f, b"On", b"C5", b"C2");
+    let returns: &[u8] = b"On C10 C5\r\nOn C5 C2\r\nOn B7 C10\r";
+    show(returns, b"On", b"B7", b"C2");
 }
 
 // Row 15: no such relation, not a binary one, an element not in the facts.
@@ -96,6 +98,7 @@ fn refused() {
     show(b"On a b\n.\nOn b c", b"On", b"a", b"b");
     show(b"On a b\n.\nOn b c", b"On", b"a", b"c");
     show(b"", b"On", b"a", b"a");
+    show(b"On a b\r b\r\n", b"On", b"a", b"b");
 }
 
 fn main() {

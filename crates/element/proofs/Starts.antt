@@ -11,13 +11,14 @@ use Rattle.definition.specs.Text.{Text, ascii, same, some-of, span, starts, gat
 use Rattle.definition.specs.Limits.{WORD-BYTES, ARITY}
 use Rattle.definition.specs.Answer.{Answer, ok, refused, _>>=_, refuse-if}
 use Rattle.definition.specs.Token.{Token}
-use Rattle.definition.specs.Facts.{Line, Element, Fact, Word, none, one, wrong, is-inside, word, quoted-word, bare-word, on-word, elements, skipped, fact, lines, onto, cut}
+use Rattle.definition.specs.Facts.{Line, Element, Fact, Word, none, one, wrong, is-inside, word, quoted-word, bare-word, on-word, elements, skipped, fact, without-return, lines, onto, cut}
 use Rattle.definition.specs.Accept.{Accepted}
 use Rattle.definition.specs.Accept as Accept
 use Rattle.definition.specs.Names.{left-strings}
 use Rattle.definition.specs.Calls.{Part, no-part, first-part, element-part}
 use Rattle.definition.proofs.AcceptLaws.{never, ok-injective, bind-ok, then-ok}
 use Rattle.definition.proofs.ListLaws.{gather-append}
+use Rattle.definition.proofs.TextLaws.{return-shorter}
 use Rattle.definition.proofs.PlaceLaws.{value-at}
 use Rattle.parts.specs.Packed.{part-of}
 use Rattle.facts.specs.Reading.{answered, line-facts, facts-from, all-facts}
@@ -136,9 +137,9 @@ unfolding lines total LowLines
 lines-low m [] i h = tt
 lines-low m (l ∷ ls) i h = go (starts (ascii ".") l) (lines-low m ls (suc (i + length l)) (omega arith))
   where
-    go : (b : Bool) → LowLines m (lines (suc (i + length l)) ls) → LowLines m (cond b [] (record { bytes = l; at = i } ∷ lines (suc (i + length l)) ls))
+    go : (b : Bool) → LowLines m (lines (suc (i + length l)) ls) → LowLines m (cond b [] (record { bytes = without-return l; at = i } ∷ lines (suc (i + length l)) ls))
     go true ih = tt
-    go false ih = (omega (arith, h), ih)
+    go false ih = (omega (arith, h, return-shorter l), ih)
 
 all-low : (facts : Text) → Low (length facts) (elements-in (all-facts facts))
 unfolding facts-from

@@ -59,6 +59,12 @@ fn first_places() {
     in_query(facts, query, 5, 0, b"");
 }
 
+// The byte 13 of a line's end is in no element, and offsets count it.
+fn line_ends() {
+    let facts = b"On C10 C5\r\nOn C5 C2\r\nOn B7 C10\r\nHeld B7\r";
+    in_facts(facts, b"P();", 2, 17, b"C2");
+}
+
 // "Quotes are no part of its value": an empty element is the empty part after its opening quote. x stands in both texts.
 fn quoted() {
     let facts = b"R \"\" \"x y\" x";
@@ -83,6 +89,7 @@ fn refused() {
 
 fn main() {
     first_places();
+    line_ends();
     quoted();
     left_hand_strings();
     refused();

@@ -218,8 +218,17 @@ fn all_elements() {
     run(b"row 7", facts, b"P(\"new\");", 1, 1152, 256);
 }
 
+// "The same facts saved either way .. load to the same tables": cases A and B, but for offsets.
+fn line_ends<'a>(query: &'a [u8]) {
+    let f = b"On C10 C5\r\nOn C5 C2\r\nOn B7 C10\r\nHeld B7\r";
+    check(b"A with CR LF", f, query);
+    run(b"B with CR LF", f, query, 2, 77, 63);
+}
+
 fn facts_refused() {
     run_all(b"row 2", b"R a\x01\n", b"P();");
+    run_all(b"row 2", b"R a\rb\r\n", b"P();");
+    run_all(b"row 2", b"R a\r\r\n", b"P();");
     run_all(b"row 3", b"R a\n1x\n", b"P();");
     run_all(b"row 4", b"R \"a\n", b"P();");
     run_all(b"row 5", b"R a b c d\n", b"P();");
@@ -247,13 +256,15 @@ fn limits<'a>(facts: &'a [u8]) {
 
 fn main() {
     let f = b"On C10 C5\nOn C5 C2\nOn B7 C10\nHeld B7\n";
-    closures(f, b"Dep(x,y) := TC(On(x,y)); PRINT [\"Dep\"] Dep(x,y);");
+    let dep = b"Dep(x,y) := TC(On(x,y)); PRINT [\"Dep\"] Dep(x,y);";
+    closures(f, dep);
     expressions(f);
     statements(f);
     also_wrong(f);
     rows(f);
     room();
     all_elements();
+    line_ends(dep);
     facts_refused();
     query_refused(f);
     limits(f);

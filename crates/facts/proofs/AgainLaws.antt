@@ -7,25 +7,25 @@ use native.Mathlib.Omega.{arith}
 use native.Mathlib.Decide.{decLt}
 use lib.ListN.{length, take, drop, drop-of-length-le}
 use Rattle.definition.specs.Text.{Text, ascii, starts, span, gather, all-of}
-use Rattle.definition.specs.Facts.{Fact, cut, lines}
+use Rattle.definition.specs.Facts.{Fact, cut, without-return, lines}
 use Rattle.definition.proofs.TextLaws.{no-end}
 use Rattle.facts.specs.Reading.{line-facts, facts-from, line-of}
 use Rattle.facts.proofs.ReadingLaws.{lines-dot, lines-last, lines-more}
 
 -- past the end there is nothing but an empty line
 pub facts-end : (xs : Text) (a : ℕ) → length xs ≤ a → facts-from xs a ≡ []
-unfolding facts-from cut lines starts gather line-facts all-of
+unfolding facts-from cut lines without-return starts gather line-facts all-of
 facts-end xs a h = rw (drop-of-length-le xs)
 
-module _ (xs : Text) (a e : ℕ) (within : a ≤ length xs) (r : e ≡ a + span no-end (drop a xs)) (b : e ≤ length xs) where
-  pub facts-dot : starts (ascii ".") (take (e - a) (drop a xs)) ≡ true → facts-from xs a ≡ []
+module _ (xs : Text) (a e t : ℕ) (within : a ≤ length xs) (r : e ≡ a + span no-end (drop a xs)) (b : e ≤ length xs) (w : take (t - a) (drop a xs) ≡ without-return (take (e - a) (drop a xs))) where
+  pub facts-dot : starts (ascii ".") (take (t - a) (drop a xs)) ≡ true → facts-from xs a ≡ []
   unfolding facts-from gather
-  facts-dot d = ap (gather line-facts) (lines-dot xs a e within r b d)
+  facts-dot d = ap (gather line-facts) (lines-dot xs a e within r b t w d)
 
-  pub facts-step : starts (ascii ".") (take (e - a) (drop a xs)) ≡ false → facts-from xs a ≡ line-facts (line-of xs a e) ++ facts-from xs (e + 1)
+  pub facts-step : starts (ascii ".") (take (t - a) (drop a xs)) ≡ false → facts-from xs a ≡ line-facts (line-of xs a t) ++ facts-from xs (e + 1)
   unfolding facts-from gather
   facts-step d = go (decLt e (length xs))
     where
-      go : Dec (e < length xs) → facts-from xs a ≡ line-facts (line-of xs a e) ++ facts-from xs (e + 1)
-      go (yes l) = ap (gather line-facts) (lines-more xs a e within r b d l)
-      go (no l) = ap (gather line-facts) (lines-last xs a e within r b d (omega arith)) ∙ ap (λ (fs : List Fact). line-facts (line-of xs a e) ++ fs) (sym (facts-end xs (e + 1) (omega arith)))
+      go : Dec (e < length xs) → facts-from xs a ≡ line-facts (line-of xs a t) ++ facts-from xs (e + 1)
+      go (yes l) = ap (gather line-facts) (lines-more xs a e within r b t w d l)
+      go (no l) = ap (gather line-facts) (lines-last xs a e within r b t w d (omega arith)) ∙ ap (λ (fs : List Fact). line-facts (line-of xs a t) ++ fs) (sym (facts-end xs (e + 1) (omega arith)))

@@ -7,5 +7,5 @@ pub mod UseLaws
 pub mod FactLaws
 pub mod TakeLaws
 pub mod ReadingLaws
-pub mod BytesLaws
+pub mod ClearLaws
 pub mod AgainLaws

@@ -7,13 +7,16 @@ use native.Mathlib.Numerals.{add-one}
 use native.Mathlib.Omega.{arith}
 use native.Mathlib.Decide.{decLt}
 use lib.ListN.{length, take, drop, drop-of-length-le}
-use lib.Seq.{drop-cons, drop-drop}
+use lib.Seq.{drop-cons}
 use Rattle.definition.specs.Text.{Text, ascii, starts, span, gather}
 use Rattle.definition.specs.Limits.{Limits}
 use Rattle.definition.specs.Answer.{ok, refusal}
-use Rattle.definition.specs.Facts.{Line, Fact, Facts, cut, lines, fact-lines, read-lines, Ascending}
+use Rattle.definition.specs.Facts.{Line, Fact, Facts, cut, without-return, lines, fact-lines, read-lines, Ascending}
 use Rattle.definition.specs.declared.Refusal.{Refusal}
-use Rattle.definition.proofs.TextLaws.{cut-line, later-lines, no-end}
+use Rattle.definition.proofs.ListLaws.{gather-append}
+use Rattle.definition.proofs.TextLaws.{no-end}
+use Rattle.definition.proofs.LegalLaws.{dot-kept}
+use Rattle.breaks.proofs.FirstLine.{cut-first, line-size}
 use Rattle.parts.specs.Entries.{Held, note-all, enter-all, texts-of}
 use Rattle.parts.proofs.HeldLaws.{enter-all-ascending, held-take, held-length, held-then, note-all-append, note-all-longer, enter-all-append, enter-all-longer}
 use Rattle.facts.specs.declared.Counts.{Counts}
@@ -22,42 +25,29 @@ use Rattle.facts.specs.declared.FactsRead.the-variants.{Given, Refused}
 use Rattle.facts.specs.Words.{element-word, fact-word, noted, entered}
 use Rattle.facts.specs.Pass.{limits-of, facts-of}
 use Rattle.facts.specs.Reading.{line-facts, facts-from, all-facts, line-of, more-relations, more-elements, Taken, no-facts, LinesRead}
-use Rattle.facts.proofs.TakeLaws.{line-size}
 
 -- the line that starts at a and ends at e, and the lines after it
 module _ (xs : Text) (a e : ℕ) (within : a ≤ length xs) (r : e ≡ a + span no-end (drop a xs)) (b : e ≤ length xs) where
-  run : span no-end (drop a xs) ≡ e - a
-  run = omega (arith, r)
-
-  from : a ≤ e
-  from = omega (arith, r)
-
-  rest : drop (e - a) (drop a xs) ≡ drop e xs
-  rest = let k : a + (e - a) ≡ e = omega (arith, r) in rw (drop-drop, k)
-
-  cut-first : cut (drop a xs) ≡ take (e - a) (drop a xs) ∷ later-lines (drop e xs)
-  cut-first = cut-line (drop a xs) ∙ ap (λ (n : ℕ). take n (drop a xs) ∷ later-lines (drop n (drop a xs))) run ∙ ap (λ (l : Text). take (e - a) (drop a xs) ∷ later-lines l) rest
-
   next : suc (a + length (take (e - a) (drop a xs))) ≡ e + 1
-  next = omega (arith, line-size xs a e from b, r)
+  next = let from : a ≤ e = omega (arith, r) in omega (arith, line-size xs a e from b, r)
 
-  pub lines-dot : starts (ascii ".") (take (e - a) (drop a xs)) ≡ true → lines a (cut (drop a xs)) ≡ []
-  unfolding lines
-  lines-dot d = rw (cut-first, d)
+  -- it ends at t without the byte 13 of its end
+  module _ (t : ℕ) (w : take (t - a) (drop a xs) ≡ without-return (take (e - a) (drop a xs))) where
+    dot-first : starts (ascii ".") (take (e - a) (drop a xs)) ≡ starts (ascii ".") (take (t - a) (drop a xs))
+    dot-first = sym (dot-kept (take (e - a) (drop a xs))) ∙ ap (starts (ascii ".")) (sym w)
 
-  module _ (d : starts (ascii ".") (take (e - a) (drop a xs)) ≡ false) where
-    pub lines-last : e ≡ length xs → lines a (cut (drop a xs)) ≡ line-of xs a e ∷ []
+    pub lines-dot : starts (ascii ".") (take (t - a) (drop a xs)) ≡ true → lines a (cut (drop a xs)) ≡ []
     unfolding lines
-    lines-last k = let m : length xs ≤ e = omega arith in rw (cut-first, drop-of-length-le xs {i = e} m, d)
+    lines-dot d = rw (cut-first xs a e within r b, dot-first, d)
 
-    pub lines-more : e < length xs → lines a (cut (drop a xs)) ≡ line-of xs a e ∷ lines (e + 1) (cut (drop (e + 1) xs))
-    unfolding lines
-    lines-more k = rw (cut-first, drop-cons xs e 0, d, next, add-one)
+    module _ (d : starts (ascii ".") (take (t - a) (drop a xs)) ≡ false) where
+      pub lines-last : e ≡ length xs → lines a (cut (drop a xs)) ≡ line-of xs a t ∷ []
+      unfolding lines
+      lines-last k = let m : length xs ≤ e = omega arith in rw (cut-first xs a e within r b, drop-of-length-le xs {i = e} m, dot-first, d, w)
 
-gather-append : {A B : Type 0} (f : A → List B) (xs ys : List A) → gather f (xs ++ ys) ≡ gather f xs ++ gather f ys
-unfolding gather
-gather-append f [] ys = refl
-gather-append f (x ∷ xs) ys = ap (λ zs. f x ++ zs) (gather-append f xs ys) ∙ sym (append-assoc (f x) (gather f xs) (gather f ys))
+      pub lines-more : e < length xs → lines a (cut (drop a xs)) ≡ line-of xs a t ∷ lines (e + 1) (cut (drop (e + 1) xs))
+      unfolding lines
+      lines-more k = rw (cut-first xs a e within r b, drop-cons xs e 0, dot-first, d, next, add-one, w)
 
 module _ (facts query : Text) where
   pub noted-more : (fs gs : List Fact) → noted facts query (fs ++ gs) ≡ more-relations facts query gs (noted facts query fs)
@@ -144,15 +134,16 @@ module _ (facts query : Text) where
           longer-elements t n = omega (arith, t .2 .count, h .elements .count, ap length (held-take (h .elements)), enter-all-longer facts query (gather (λ f. map element-word (f .elements)) (line-facts l)) (take (c .elements) us))
 
 -- a refusal at the line that starts at a
-module _ (facts : Text) (a e : ℕ) (within : a ≤ length facts) (r : e ≡ a + span no-end (drop a facts)) (b : e ≤ length facts) (d : starts (ascii ".") (take (e - a) (drop a facts)) ≡ false) where
+module _ (facts : Text) (a e t : ℕ) (within : a ≤ length facts) (r : e ≡ a + span no-end (drop a facts)) (b : e ≤ length facts) (w : take (t - a) (drop a facts) ≡ without-return (take (e - a) (drop a facts)))
+    (d : starts (ascii ".") (take (t - a) (drop a facts)) ≡ false) where
   pub fails-at : (query : Text) (rs₀ us₀ rs us : List ℕ) (c : Counts) → Reading facts query rs₀ us₀ (lines a (cut (drop a facts))) rs us c → (rs′ us′ : List ℕ) (q : Refusal)
-      → ((ls : List Line) (fs : List Fact) → read-lines (limits-of (length rs) (length us)) (line-of facts a e ∷ ls) (facts-of facts query (take (c .relations) rs) (take (c .elements) us) fs) ≡ refusal q)
+      → ((ls : List Line) (fs : List Fact) → read-lines (limits-of (length rs) (length us)) (line-of facts a t ∷ ls) (facts-of facts query (take (c .relations) rs) (take (c .elements) us) fs) ≡ refusal q)
       → LinesRead facts query rs₀ rs′ us₀ us′ (Refused q)
-  fails-at query rs₀ us₀ rs us c h rs′ us′ q t = go (decLt e (length facts))
+  fails-at query rs₀ us₀ rs us c h rs′ us′ q f = go (decLt e (length facts))
     where
-      at : (ls : List Line) → lines a (cut (drop a facts)) ≡ line-of facts a e ∷ ls → LinesRead facts query rs₀ rs′ us₀ us′ (Refused q)
-      at ls k = reading-fails facts query rs₀ us₀ (subst (λ (ms : List Line). Reading facts query rs₀ us₀ ms rs us c) k h) rs′ us′ q (d, t)
+      at : (ls : List Line) → lines a (cut (drop a facts)) ≡ line-of facts a t ∷ ls → LinesRead facts query rs₀ rs′ us₀ us′ (Refused q)
+      at ls k = reading-fails facts query rs₀ us₀ (subst (λ (ms : List Line). Reading facts query rs₀ us₀ ms rs us c) k h) rs′ us′ q (d, f)
 
       go : Dec (e < length facts) → LinesRead facts query rs₀ rs′ us₀ us′ (Refused q)
-      go (yes l) = at (lines (e + 1) (cut (drop (e + 1) facts))) (lines-more facts a e within r b d l)
-      go (no l) = at [] (lines-last facts a e within r b d (omega arith))
+      go (yes l) = at (lines (e + 1) (cut (drop (e + 1) facts))) (lines-more facts a e within r b t w d l)
+      go (no l) = at [] (lines-last facts a e within r b t w d (omega arith))

@@ -10,6 +10,7 @@ use Rattle.definition.specs.Text.{Text, ascii, starts, gather}
 use Rattle.definition.specs.Answer.{Answer, ok, refused, refusal}
 use Rattle.definition.specs.Facts.{Line, Element, Fact, skipped, fact, read-lines}
 use Rattle.definition.specs.declared.Refusal.{Refusal}
+use Rattle.breaks.proofs.FirstLine.{line-size}
 use Rattle.parts.specs.Packed.{pack}
 use Rattle.parts.specs.Entries.{note, note-all, enter-all}
 use Rattle.parts.proofs.EntryLaws.{take-drop}
@@ -88,9 +89,6 @@ three {A} f g (suc zero) x y z p q r = rw p
 three {A} f g (suc (suc zero)) x y z p q r = rw (p, q)
 three {A} f g (suc (suc (suc zero))) x y z p q r = rw (p, q, r)
 three {A} f g (suc (suc (suc (suc k)))) x y z p q r = rw (p, q, r)
-
-pub line-size : (facts : Text) (a e : ℕ) → a ≤ e → e ≤ length facts → length (take (e - a) (drop a facts)) ≡ e - a
-line-size facts a e h w = length-take-le (e - a) (drop a facts) (rw length-drop (omega arith))
 
 offset-same : (b : Bool) (a p : ℕ) → cond b (suc (a + p)) (a + p) ≡ a + cond b (p + 1) p
 offset-same true a p = omega arith

@@ -2,7 +2,7 @@
 use Prim.Native.Nat.{ℕ, zero, suc, _+_, _-_, _<_, _≤_}
 use mathlib.Core.Path.{_≡_, refl, sym, ap, _∙_}
 use mathlib.Core.List.{[], _∷_}
-use mathlib.Core.Bool.{Bool, true, false, _&&_, not, cond, and-true}
+use mathlib.Core.Bool.{Bool, true, false, _&&_, not, cond}
 use native.Mathlib.Numerals.{add-one}
 use native.Mathlib.Nat.{add-assoc}
 use native.Mathlib.Omega.{arith}
@@ -206,14 +206,3 @@ module _ (l : Text) (j b : ℕ) (within : j ≤ length l) (r : b ≡ j + span is
   pub next-nothing : b ≡ length l → (i : ℕ) → next-word l i j ≡ none
   unfolding word
   next-nothing h i = let g : length l ≤ b = omega arith in next-is i ∙ rw (drop-of-length-le l)
-
--- the first byte of a line
-pub starts-empty : (b : ℕ) (l : Text) → length l ≡ 0 → false ≡ starts (b ∷ []) l
-unfolding starts
-starts-empty b [] h = refl
-starts-empty b (x ∷ l) h = absurd (omega arith)
-
-pub starts-first : (b : ℕ) (l : Text) → (length l ≡ 0 → ⊥) → eqb b (getD l 0 0) ≡ starts (b ∷ []) l
-unfolding starts
-starts-first b [] h = absurd (h refl)
-starts-first b (x ∷ l) h = sym (and-true (eqb b x))

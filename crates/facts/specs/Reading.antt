@@ -1,11 +1,10 @@
 -- The facts of a text, line by line, and what the pass over its lines answers.
-use Prim.Native.Nat.{ℕ, _-_, _≤_}
+use Prim.Native.Nat.{ℕ, _-_}
 use mathlib.Core.Path.{_≡_}
 use mathlib.Core.Bool.{true, false}
 use mathlib.Core.List.{List, [], _∷_, _++_, map}
 use lib.ListN.{length, take, drop, replicate}
 use Rattle.definition.specs.Text.{if_then_else_, Text, ascii, starts, gather}
-use Rattle.definition.specs.Limits.{Limits, FACT-BYTES}
 use Rattle.definition.specs.Answer.{Answer, ok, refused, refusal}
 use Rattle.definition.specs.Facts.{Line, Fact, Facts, cut, lines, fact-lines, skipped, fact, read-lines, read-facts}
 use Rattle.parts.specs.Entries.{Held, note-all, enter-all}
@@ -15,8 +14,6 @@ use Rattle.facts.specs.Pass.{limits-of, facts-of}
 use Rattle.facts.specs.declared.Counts.{Counts}
 use Rattle.facts.specs.declared.LineTaken.{LineTaken}
 use Rattle.facts.specs.declared.LineTaken.the-variants.{More, Dot, Fails}
-use Rattle.facts.specs.declared.FactsBytes.{FactsBytes}
-use Rattle.facts.specs.declared.FactsBytes.the-variants.{Right, Wrong}
 use Rattle.facts.specs.declared.FactsRead.{FactsRead}
 use Rattle.facts.specs.declared.FactsRead.the-variants.{Given, Refused}
 
@@ -72,11 +69,6 @@ module _ (facts query : Text) where
       × Held rs rs′ (noted facts query (all-facts facts)) (c .relations)
       × Held us us′ (entered facts query (all-facts facts)) (c .elements)
   LinesRead rs rs′ us us′ (Refused q) = read-lines (limits-of (length rs) (length us)) (fact-lines facts) no-facts ≡ refusal q
-
-  -- rows 1 and 2
-  abbrev pub BytesRead : FactsBytes → Type 0
-  BytesRead Right = (length facts ≤ FACT-BYTES) × ((limits : Limits) → read-facts limits facts ≡ read-lines limits (fact-lines facts) no-facts)
-  BytesRead (Wrong q) = (limits : Limits) → read-facts limits facts ≡ refusal q
 
   -- rows 1 to 7, and all lent words: a refusal clears them
   abbrev pub Meets : List ℕ → List ℕ → List ℕ → List ℕ → FactsRead → Type 0

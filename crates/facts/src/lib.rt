@@ -3,15 +3,18 @@ ghost use mathlib.Core.Path.{_≡_};
 ghost use mathlib.Core.List.{[], _∷_, _++_};
 ghost use Prim.Native.Nat.{ℕ, _+_, _-_, _≤_, _<_};
 ghost use lib.ListN.{length, getD, take, drop, replicate};
-ghost use Rattle.definition.specs.Text.{Text, starts};
+ghost use Rattle.definition.specs.Text.{Text};
 ghost use Rattle.definition.specs.Limits.{ARITY, WORD-BYTES, FACT-BYTES};
-ghost use Rattle.definition.specs.Facts.{word, fact, last-place, fact-lines, bytes-read, Ascending};
+ghost use Rattle.definition.specs.Facts.{word, fact, last-place, Ascending};
 ghost use Rattle.parts.specs.Entries.{texts-of};
 ghost use Rattle.facts.specs.Lines.{start-of, Within, AllWithin, NextWithin, ReadWithin, items-of, item-at, line-at, next-word, word-of, says, says-elements, role, role-of};
 ghost use Rattle.facts.specs.Words.{elements-at, item-word};
 ghost use Rattle.facts.specs.Pass.{RelationUsed, UniverseUsed, FactTaken};
-ghost use Rattle.facts.specs.Reading.{line-of, Taken, LinesRead, BytesRead, Meets};
+ghost use Rattle.facts.specs.Reading.{line-of, Taken, LinesRead, Meets};
 ghost use Rattle.facts.specs.Again.{FactOfLine, NextIs};
+use breaks::FactsBytes;
+use breaks::check_bytes;
+use breaks::line_end;
 use definition::Refusal;
 use hints::enter_hinted;
 use parts::Entered;
@@ -20,6 +23,7 @@ use parts::packed;
 use texts::Class;
 use texts::is_name;
 use texts::run_end;
+use texts::starts_with;
 
 // An element of a line: its place in the line, which is its opening quote's if it has one, and the length of its value.
 pub struct Item {
@@ -198,16 +202,6 @@ fn read_elements(l: &[u8], n: usize) -> LineRead
             }
         }
     }
-}
-
-// Whether the line starts with the byte b.
-fn starts_with(l: &[u8], b: u8) -> bool
-    ensures { λ r. ⌜ r ≡ starts (b ∷ []) (now (l .entry)) ⌝ }
-{
-    if l.len() == 0 {
-        return false;
-    }
-    b == l[0]
 }
 
 // "Any other line is a relation name at the line's first byte, then 0 to 3 elements"
@@ -454,7 +448,8 @@ fn read_lines<'a>(
     let mut a: usize = 0;
     loop {
         let e = run_end(facts, a, Class::NoEnd);
-        match take_line(facts, query, relations, universe, &mut hints, c, a, e) {
+        let t = line_end(facts, a, e);
+        match take_line(facts, query, relations, universe, &mut hints, c, a, t) {
             LineTaken::Dot => return FactsRead::Given(c),
             LineTaken::Fails(q) => return FactsRead::Refused(q),
             LineTaken::More(d) => {
@@ -466,47 +461,6 @@ fn read_lines<'a>(
         }
         a = e + 1;
     }
-}
-
-// How many bytes are read: "nothing after that dot is read".
-fn read_end(facts: &[u8]) -> usize
-    requires { ⌜ length (now facts) ≤ FACT-BYTES ⌝ }
-    ensures { λ r. ⌜ r ≡ bytes-read (fact-lines (now (facts .entry))) ⌝ }
-{
-    let mut a: usize = 0;
-    loop {
-        let e = run_end(facts, a, Class::NoEnd);
-        if starts_with(&facts[a..e], b'.') {
-            return a;
-        }
-        if e == facts.len() {
-            return e + 1;
-        }
-        a = e + 1;
-    }
-}
-
-// What rows 1 and 2 say of the bytes.
-enum FactsBytes {
-    Right,
-    Wrong(Refusal),
-}
-
-// "Order: 1; 2 over all lines read"
-fn check_bytes(facts: &[u8]) -> FactsBytes
-    ensures { λ r. ⌜ BytesRead (now (facts .entry)) (now (facts .entry)) r ⌝ }
-{
-    if 32768 < facts.len() {
-        return FactsBytes::Wrong(Refusal::FactsTooLong);
-    }
-    let legal = run_end(facts, 0, Class::Legal);
-    if legal == facts.len() {
-        return FactsBytes::Right;
-    }
-    if legal < read_end(facts) {
-        return FactsBytes::Wrong(Refusal::FactByte(legal));
-    }
-    FactsBytes::Right
 }
 
 fn clear(words: &mut [usize])
@@ -580,7 +534,8 @@ pub fn next_fact(facts: &[u8], at: usize) -> NextFact
     let mut a = at;
     while a < facts.len() {
         let e = run_end(facts, a, Class::NoEnd);
-        match line_fact(&facts[a..e]) {
+        let t = line_end(facts, a, e);
+        match line_fact(&facts[a..t]) {
             LineFact::Has(f) => return NextFact::Fact(a, f, e + 1),
             LineFact::Last => return NextFact::NoMore,
             LineFact::Lacks => {

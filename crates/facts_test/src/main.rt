@@ -85,6 +85,30 @@ fn bytes() {
     show(b"A x y z w\n\x01");
 }
 
+// "one byte 13 directly before byte 10, or as the last byte of the text, belong to the line end"
+fn line_ends() {
+    show(b"On C10 C5\r\nOn C5 C2\r\nOn B7 C10\r\nHeld B7\r\n");
+    show(b"A x\r\nA x\nA y\r");
+    show(b"A \"x\"\r\nA x");
+    show(b"A x\r\n\r\n \t\r\n# c\r\n\r");
+    show(b"A x\r\n.\r\ry\r");
+    show(b"A 12345678901234567890123456789012\r\n");
+    show(b"A \"x\r\n");
+    show(b"A x\r\nA x y\r\n");
+    show(b"A x\r\nA \xc8\r\n");
+}
+
+// "A byte 13 anywhere else keeps refusal 2"
+fn other_returns() {
+    show(b"A x\ry\r\n");
+    show(b"A \"x\ry\"\r\n");
+    show(b"# c\rd\r\n");
+    show(b"A x\r\r\n");
+    show(b"A x\r\r");
+    show(b"A x\rA y\r");
+    show(b"A x\r\n\r.");
+}
+
 // 15, 16 and 17 relations
 fn many_relations() {
     show_full(b"A\nB\nC\nD\nE\nF\nG\nH\nI\nJ\nK\nL\nM\nN\nO");
@@ -128,6 +152,8 @@ fn main() {
     names();
     elements();
     bytes();
+    line_ends();
+    other_returns();
     many_relations();
     many_elements();
     many_bytes();

@@ -6,10 +6,10 @@ use mathlib.Core.List.{List, [], _∷_, _++_}
 use native.Mathlib.Omega.{arith}
 use lib.Dec.{T, eqb, ltb, leb, eqb→eq}
 use lib.ListN.{length, getD}
-use Rattle.definition.specs.Text.{Text, same, span, is-legal}
+use Rattle.definition.specs.Text.{Text, same}
 use Rattle.definition.specs.Limits.{Limits, FACT-BYTES}
 use Rattle.definition.specs.Answer.{Answer, ok, _>>=_, refuse-if}
-use Rattle.definition.specs.Facts.{Relation, Fact, Facts, Line, arities, add-relation, on-arities, use-relation, use-elements, with-fact, last-place, skipped, fact, read-lines, read-facts, fact-lines, bytes-read}
+use Rattle.definition.specs.Facts.{Relation, Fact, Facts, Line, arities, add-relation, on-arities, use-relation, use-elements, with-fact, last-place, skipped, fact, read-lines, read-facts, fact-lines, cut, bytes-read, legal-bytes}
 use Rattle.definition.specs.Names.{Kinds, Use, use-name, use-names, relation, learn, fact-kinds, in-program}
 use Rattle.definition.specs.Accept.{Accepted, accept}
 use Rattle.definition.proofs.BoolLaws.{is-true, is-false}
@@ -164,9 +164,9 @@ lines-named limits (l ∷ ls) s t e h = go (skipped (l .bytes)) e (λ s e h. lin
 pub lines-read : (limits : Limits) (xs : Text) (f : Facts) → read-facts limits xs ≡ ok f → read-lines limits (fact-lines xs) (record { relations = []; universe = []; facts = [] }) ≡ ok f
 unfolding read-facts
 lines-read limits xs f e =
-    let legal = span is-legal xs in
+    let legal = legal-bytes xs in
     let e₂ = then-ok (refuse-if (ltb FACT-BYTES (length xs)) 1 FACT-BYTES) _ f e in
-    then-ok (refuse-if (ltb legal (length xs) && ltb legal (bytes-read (fact-lines xs))) 2 legal) _ f e₂
+    then-ok (refuse-if (ltb legal (length xs) && ltb legal (bytes-read (cut xs))) 2 legal) _ f e₂
 
 -- ---- names of the query
 

@@ -1,15 +1,15 @@
 -- How the order and the equality of two texts go on at one place of both.
 use Prim.Native.Nat.{ℕ, _+_, _<_, _≤_}
-use mathlib.Core.Path.{_≡_, refl}
+use mathlib.Core.Path.{_≡_, refl, sym}
 use mathlib.Core.List.{[], _∷_}
-use mathlib.Core.Bool.{Bool, true, false, _&&_, cond, and-false}
+use mathlib.Core.Bool.{Bool, true, false, _&&_, cond, and-false, and-true}
 use native.Mathlib.Numerals.{add-one}
 use native.Mathlib.Omega.{arith}
 use lib.Dec.{eqb}
 use lib.ListN.{length, getD, drop, drop-of-length-le}
 use lib.Seq.{drop-cons}
 use borrow.Author.Tests.{lt-ltb, le-ltb, eq-eqb, ne-eqb}
-use Rattle.definition.specs.Text.{Text, same, earlier}
+use Rattle.definition.specs.Text.{Text, same, earlier, starts}
 use Rattle.texts.specs.Orders.{order}
 use Rattle.texts.specs.declared.Order.{Order}
 use Rattle.texts.specs.declared.Order.the-variants.{Before, Same, After}
@@ -90,3 +90,14 @@ module _ (s t : Text) where
   pub is-after : order s t ≡ After → (same s t ≡ false) × (earlier s t ≡ false)
   unfolding order by-tests
   is-after e = tests-after (same s t) (earlier s t) e
+
+-- the first byte of a text
+pub starts-empty : (b : ℕ) (l : Text) → length l ≡ 0 → false ≡ starts (b ∷ []) l
+unfolding starts
+starts-empty b [] h = refl
+starts-empty b (x ∷ l) h = absurd (omega arith)
+
+pub starts-first : (b : ℕ) (l : Text) → (length l ≡ 0 → ⊥) → eqb b (getD l 0 0) ≡ starts (b ∷ []) l
+unfolding starts
+starts-first b [] h = absurd (h refl)
+starts-first b (x ∷ l) h = sym (and-true (eqb b x))

@@ -1,9 +1,10 @@
 // Texts as slices of bytes: their order and equality, the classes of bytes, the reserved words, names.
 ghost use mathlib.Core.Path.{_≡_};
 ghost use mathlib.Core.Bool.{true, false};
+ghost use mathlib.Core.List.{[], _∷_};
 ghost use Prim.Native.Nat.{ℕ, _+_, _≤_, _<_};
 ghost use lib.ListN.{length, drop};
-ghost use Rattle.definition.specs.Text.{same, span, member, reserved, is-letter, is-part, is-legal, is-blank, is-name, between};
+ghost use Rattle.definition.specs.Text.{same, starts, span, member, reserved, is-letter, is-part, is-legal, is-blank, is-name, between};
 ghost use Rattle.definition.specs.Token.{word-terminal, FIRST-WORD};
 ghost use Rattle.texts.specs.Orders.{order};
 ghost use Rattle.texts.specs.Classes.{is-of};
@@ -56,12 +57,23 @@ pub fn same(a: &[u8], b: &[u8]) -> bool
     true
 }
 
-// The classes of bytes that runs are made of. Inside: no blank. InString: neither a quote nor byte 10. Bare: neither a quote nor a blank.
+// Whether the text starts with the byte b.
+pub fn starts_with(l: &[u8], b: u8) -> bool
+    ensures { λ r. ⌜ r ≡ starts (b ∷ []) (now (l .entry)) ⌝ }
+{
+    if l.len() == 0 {
+        return false;
+    }
+    b == l[0]
+}
+
+// The classes of bytes that runs are made of. Inside: no blank. Printable: 32 to 126. InString: neither a quote nor byte 10. Bare: neither a quote nor a blank.
 pub enum Class {
     Blank,
     Inside,
     Part,
     Legal,
+    Printable,
     NoQuote,
     NoEnd,
     InString,
@@ -133,6 +145,7 @@ pub fn of_class(b: u8, k: Class) -> bool
         Class::Inside => !is_blank(b),
         Class::Part => is_part(b),
         Class::Legal => is_legal(b),
+        Class::Printable => is_between(32, 126, b),
         Class::NoQuote => b != 34,
         Class::NoEnd => b != 10,
         Class::InString => {

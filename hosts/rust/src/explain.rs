@@ -20,7 +20,7 @@ pub struct At {
     pub text: Text,
     /// from 1
     pub line: usize,
-    /// in bytes, from 1
+    /// in bytes, from 1; a line end, with or without its 13, is one past the line
     pub column: usize,
     /// the name, element, token or byte at the place; empty at the text's end
     pub found: Vec<u8>,
@@ -32,14 +32,14 @@ pub struct At {
 fn rule(refusal: Refusal) -> &'static str {
     match refusal {
         Refusal::FactsTooLong => "facts have at most 32,768 bytes",
-        Refusal::FactByte => "a byte of the facts is 9, 10 or 32 to 126",
+        Refusal::FactByte => "a byte of the facts is 9, 10 or 32 to 126, or one CR (13) directly before an LF (10) or as the text's last byte",
         Refusal::FactName => "a fact starts with a relation name at the line's first byte: a letter or underscore, then letters, digits, underscores, 1 to 32 bytes, not \"_\" alone and not reserved",
         Refusal::FactElement => "an element has at most 32 bytes, no quote inside, and a closing quote followed by a blank or the line's end if it starts with a quote",
         Refusal::Arity => "a relation has 0 to 3 elements, and as many everywhere",
         Refusal::TooManyRelations => "facts and query have at most 16 relations",
         Refusal::TooManyElements => "facts and left-hand sides have at most 64 elements",
         Refusal::QueryTooLong => "a query has at most 16,384 bytes",
-        Refusal::NoToken => "a token starts here that is none, is over 32 bytes, or is a string or comment left open; or a byte is not 9, 10 or 32 to 126",
+        Refusal::NoToken => "a token starts here that is none, is over 32 bytes, or is a string or comment left open; or a byte is not 9, 10 or 32 to 126: a query's lines end in LF (10), not in CR LF (13, 10)",
         Refusal::NoProgram => "the tokens up to here begin no program",
         Refusal::Kind => "a name has one kind (relation, attribute, loop variable) throughout, its place takes that kind, and a loop variable stands in its loop's block only and is not bound again there",
         Refusal::FreeAttributes => "an assignment's left attributes are the free ones of its right side; IF and WHILE have none, FOR one, TC and TCFAST two, a printed expression at most 3",
@@ -65,47 +65,64 @@ fn run_of(text: &[u8], ends: impl Fn(u8) -> bool) -> usize {
     text.iter().position(|&b| ends(b)).unwrap_or(text.len())
 }
 
-/// The length of the string at the start of a text: to its closing quote, or to the line's end.
-fn string(text: &[u8]) -> usize {
-    let inner = run_of(&text[1..], |b| b == b'"' || b == 10);
-    1 + inner + (text.get(1 + inner) == Some(&b'"')) as usize
+/// The length of the string at the start of a line's rest: to its closing quote, or to the line's end.
+fn string(rest: &[u8]) -> usize {
+    let inner = run_of(&rest[1..], |b| b == b'"');
+    1 + inner + (rest.get(1 + inner) == Some(&b'"')) as usize
 }
 
-/// The length of the name or element at the start of a text.
-fn word(text: &[u8]) -> usize {
-    let quoted = if text.first() == Some(&b'"') { string(text) } else { 0 };
-    quoted + run_of(&text[quoted..], |b| b == b' ' || b == 9 || b == 10)
+/// The length of the name or element at the start of a line's rest.
+fn word(rest: &[u8]) -> usize {
+    let quoted = if rest.first() == Some(&b'"') { string(rest) } else { 0 };
+    quoted + run_of(&rest[quoted..], |b| b == b' ' || b == 9)
 }
 
-/// The length of the token at the start of a text.
-fn token(text: &[u8]) -> usize {
+/// The length of the token at the start of a line's rest.
+fn token(rest: &[u8]) -> usize {
     const LONG: [&[u8]; 7] = [b"<->", b"->", b"<=", b">=", b"!=", b":=", b"/*"];
-    match text.first() {
+    match rest.first() {
         None => 0,
-        Some(b'"') => string(text),
-        Some(b) if b.is_ascii_alphabetic() || *b == b'_' => run_of(text, |b| !b.is_ascii_alphanumeric() && b != b'_'),
-        Some(_) => LONG.iter().find(|m| text.starts_with(m)).map_or(1, |m| m.len()),
+        Some(b'"') => string(rest),
+        Some(b) if b.is_ascii_alphabetic() || *b == b'_' => run_of(rest, |b| !b.is_ascii_alphanumeric() && b != b'_'),
+        Some(_) => LONG.iter().find(|m| rest.starts_with(m)).map_or(1, |m| m.len()),
     }
+}
+
+/// The place behind the last byte that is such, from `from` on; or `from`.
+fn behind(text: &[u8], from: usize, is: impl Fn(u8) -> bool) -> usize {
+    text[from..].iter().rposition(|&b| is(b)).map_or(from, |i| from + i + 1)
+}
+
+/// Where the line around a place begins and ends. The 13s before its byte 10 are no part of it.
+fn line(text: &[u8], place: usize) -> (usize, usize) {
+    let start = behind(&text[..place], 0, |b| b == 10);
+    let end = place + run_of(&text[place..], |b| b == 10);
+    (start, behind(&text[..end], start, |b| b != 13))
 }
 
 fn at(refused: &Refused, which: Text, text: &[u8]) -> At {
     let place = refused.place.min(text.len());
-    let start = text[..place].iter().rposition(|&b| b == 10).map_or(0, |i| i + 1);
-    let end = place + run_of(&text[place..], |b| b == 10);
-    let rest = &text[place..];
+    let (start, line_end) = line(text, place);
+    // a 13 of the line end is shown where it is the refused byte
+    let return_refused = matches!(refused.refusal, Refusal::FactByte | Refusal::NoToken) && text[place..].starts_with(&[13]);
+    let end = if return_refused { line_end.max(place + 1) } else { line_end };
+    // what is behind it is seen at the line's end
+    let seen = place.min(end);
     let length = match (refused.refusal, which) {
         (Refusal::FactsTooLong | Refusal::FactByte | Refusal::QueryTooLong, _) => 1,
-        (_, Text::Facts) => word(rest).max(1),
-        (_, Text::Query) => token(rest),
+        (_, Text::Facts) => word(&text[seen..end]),
+        (_, Text::Query) => token(&text[seen..end]),
     };
-    let (from, to) = (start.max(place.saturating_sub(BEFORE)), end.min(place + AFTER));
+    // a 13 before the place, as rows 1 and 8 can have it, is not shown
+    let from = behind(&text[..seen], start.max(seen.saturating_sub(BEFORE)), |b| b == 13);
+    let to = end.min(seen + AFTER);
     At {
         text: which,
         line: 1 + text[..place].iter().filter(|&&b| b == 10).count(),
-        column: 1 + place - start,
-        found: rest[..length.min(rest.len())].to_vec(),
+        column: 1 + seen - start,
+        found: text[place..text.len().min(place + length.max(1))].to_vec(),
         shown: text[from..to].to_vec(),
-        caret: place - from,
+        caret: seen - from,
     }
 }
 
@@ -120,6 +137,15 @@ fn plain(text: &[u8]) -> String {
     text.iter().map(|&b| if (32..127).contains(&b) { b as char } else if b == 9 { ' ' } else { '?' }).collect()
 }
 
+/// What was found, for the eye: a single byte that has no sign by its number.
+fn named(found: &[u8]) -> String {
+    match found {
+        [] => "end of text".to_string(),
+        [b] if !(32..127).contains(b) => format!("byte {b}"),
+        _ => format!("`{}`", plain(found)),
+    }
+}
+
 impl fmt::Display for Explained {
     fn fmt(&self, f: &mut fmt::Formatter) -> fmt::Result {
         let number = self.refused.refusal.number();
@@ -127,8 +153,7 @@ impl fmt::Display for Explained {
             return write!(f, "refused {number} ({}): {}", self.refused.place, self.rule);
         };
         let name = if at.text == Text::Facts { "facts" } else { "query" };
-        let found = if at.found.is_empty() { "end of text".to_string() } else { format!("`{}`", plain(&at.found)) };
-        writeln!(f, "{name}:{}:{}: refused {number} at {found}: {}", at.line, at.column, self.rule)?;
+        writeln!(f, "{name}:{}:{}: refused {number} at {}: {}", at.line, at.column, named(&at.found), self.rule)?;
         writeln!(f, "  {}", plain(&at.shown))?;
         write!(f, "  {}^", " ".repeat(at.caret))
     }

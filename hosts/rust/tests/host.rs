@@ -1,12 +1,18 @@
-//! The wrapper over the archive: the worked example, refusals, empty and equal texts, the largest sizes.
-use relcalc::{chain, check, element, explain, run, Ending, Refusal, Refused, Text, CHAIN_BYTES, STORE_WORDS};
+//! The wrapper over the archive: the worked example, facts saved with CR LF, refusals, empty and equal texts, the largest sizes.
+use relcalc::{chain, check, element, explain, run, Ending, Explained, Refusal, Refused, Text, CHAIN_BYTES, STORE_WORDS};
 
 const FACTS: &[u8] = b"On C10 C5\nOn C5 C2\nOn B7 C10\nHeld B7\n";
+const FACTS_CR_LF: &[u8] = b"On C10 C5\r\nOn C5 C2\r\nOn B7 C10\r\nHeld B7\r\n";
 const QUERY: &[u8] = b"Dep(x,y) := TC(On(x,y)); PRINT [\"Dep\"] Dep(x,y);";
 const PAGE: &[u8] = b"Dep B7 C10\nDep B7 C2\nDep B7 C5\nDep C10 C2\nDep C10 C5\nDep C5 C2\n";
 
 fn refused(refusal: Refusal, place: usize) -> Refused {
     Refused { refusal, place }
+}
+
+/// The explanation of why the texts are refused.
+fn told(facts: &[u8], query: &[u8]) -> Explained {
+    explain(check(facts, query).unwrap_err(), facts, query)
 }
 
 #[test]
@@ -54,16 +60,75 @@ fn elements_and_chains() {
 }
 
 #[test]
+fn facts_with_cr_lf() {
+    let checked = check(FACTS_CR_LF, QUERY).unwrap();
+    assert_eq!((checked.universe, checked.words), (4, 77));
+    let names: Vec<&[u8]> = checked.relations.iter().map(|r| r.name.of(FACTS_CR_LF, QUERY)).collect();
+    assert_eq!(names, [&b"On"[..], b"Held", b"Dep"]);
+    assert_eq!(checked.relations.iter().map(|r| (r.name.offset, r.arity, r.first)).collect::<Vec<_>>(), [(0, 2, 0), (32, 1, 4), (0, 2, 5)]);
+    let (mut store, mut output) = (vec![7; 77], vec![7; 100]);
+    let ran = run(FACTS_CR_LF, QUERY, 1_000_000, &mut store, &mut output).unwrap();
+    assert_eq!((ran.ending, ran.steps, &output[..ran.written]), (Ending::Done, 2, PAGE));
+    assert_eq!(store[..9], [2, 8, 0, 4, 1, 14, 12, 0, 4]);
+    let parts: Vec<_> = (0..4).map(|n| element(FACTS_CR_LF, QUERY, n).map(|p| (p.text, p.offset, p.length)).unwrap()).collect();
+    assert_eq!(parts, [(Text::Facts, 24, 2), (Text::Facts, 3, 3), (Text::Facts, 17, 2), (Text::Facts, 7, 2)]);
+    let mut buffer = [9; CHAIN_BYTES];
+    assert_eq!(chain(FACTS_CR_LF, b"On", b"B7", b"C2", &mut buffer), Ok(4));
+    assert_eq!(buffer[..5], [0, 1, 3, 2, 9]);
+}
+
+#[test]
+fn line_ends() {
+    let universe = |facts: &[u8]| check(facts, b"PRINT ENDL;").map(|c| c.universe);
+    assert_eq!(universe(b"\r"), Ok(0));
+    assert_eq!(universe(b"Held B7\n\r"), Ok(1));
+    assert_eq!(universe(b"Held B7\nHeld \"C2\"\r\n\r\n# a\r\nHeld C5 \r"), Ok(3));
+    assert_eq!(universe(b"Held B7\r\n.\rx\r\r\n"), Ok(1));
+    assert_eq!(universe(b"Held aaaabbbbccccddddeeeeffffgggghhhh\r\n"), Ok(1));
+    assert_eq!(universe(b"Held aaaabbbbccccddddeeeeffffgggghhhhi\r\n"), Err(refused(Refusal::FactElement, 5)));
+    assert_eq!(universe(b"Held B7\r\nHeld \xC8\r\n"), Err(refused(Refusal::FactByte, 14)));
+    let lines = b"\r\n".repeat(16_384);
+    assert_eq!(universe(&lines), Ok(0));
+    assert_eq!(universe(&[&lines[..], b"\r"].concat()), Err(refused(Refusal::FactsTooLong, 32_768)));
+}
+
+#[test]
+fn returns_elsewhere() {
+    let facts: [(usize, &[u8]); 8] = [
+        (4, b"On C\r10 C5\r\n"),
+        (7, b"Held B7\r\r\n"),
+        (7, b"Held B7\r\r"),
+        (7, b"Held B7\rHeld C2\r"),
+        (7, b"Held B7\r."),
+        (3, b"# a\rb\n"),
+        (7, b"Held \"a\rb\"\n"),
+        (10, b" Held\nOn a\rb c\n"),
+    ];
+    for (place, text) in facts {
+        assert_eq!(check(text, b"PRINT ENDL;"), Err(refused(Refusal::FactByte, place)));
+    }
+    let queries: [(usize, &[u8]); 4] =
+        [(14, b"PRINT Held(x);\r\n"), (4, b"// a\r\nPRINT ENDL;"), (8, b"PRINT \"a\rb\";"), (11, b"PRINT ENDL;\r")];
+    for (place, text) in queries {
+        assert_eq!(check(FACTS, text), Err(refused(Refusal::NoToken, place)));
+    }
+    let mut buffer = [9; CHAIN_BYTES];
+    assert_eq!(chain(b"On C5\r C2\n", b"On", b"C5", b"C2", &mut buffer), Err(refused(Refusal::FactByte, 5)));
+    assert_eq!(buffer, [9; CHAIN_BYTES]);
+}
+
+#[test]
 fn a_refusal_changes_nothing() {
     let (mut store, mut output) = ([7; 76], [7; 10]);
     assert_eq!(run(FACTS, QUERY, 9, &mut store, &mut output), Err(refused(Refusal::StoreShort, 77)));
     assert_eq!(run(FACTS, b"PRINT On(x,y)", 9, &mut store, &mut output), Err(refused(Refusal::NoProgram, 13)));
+    assert_eq!(run(b"Held B7\r\r\n", QUERY, 9, &mut store, &mut output), Err(refused(Refusal::FactByte, 7)));
+    assert_eq!(run(FACTS, b"PRINT ENDL;\r\n", 9, &mut store, &mut output), Err(refused(Refusal::NoToken, 11)));
     assert_eq!((store, output), ([7; 76], [7; 10]));
 }
 
 #[test]
 fn refusals_in_words() {
-    let told = |facts: &[u8], query: &[u8]| explain(check(facts, query).unwrap_err(), facts, query);
     let e = told(FACTS, b"P();\n\tPRINT On(x,y);\nHeld(x) := On(x,y);");
     assert_eq!(e.refused, refused(Refusal::FreeAttributes, 21));
     let at = e.at.clone().unwrap();
@@ -82,6 +147,68 @@ fn refusals_in_words() {
     assert_eq!((e.at.clone(), e.to_string().starts_with("refused 14 (77): ")), (None, true));
     let e = told(&[b'#'; 32_769], QUERY);
     assert_eq!((e.refused, e.at.unwrap().column), (refused(Refusal::FactsTooLong, 32_768), 32_769));
+}
+
+#[test]
+fn words_on_facts_with_cr_lf() {
+    let e = told(b"Held B7\r\nTRUE\r\n", QUERY);
+    assert_eq!(e.refused, refused(Refusal::FactName, 9));
+    assert!(e.to_string().starts_with("facts:2:1: refused 3 at `TRUE`: "), "{e}");
+    assert!(e.to_string().ends_with("\n  TRUE\n  ^"), "{e}");
+    let e = told(b"Held B7\r\nHeld \"5Y\r\nHeld C2\r\n", QUERY);
+    assert_eq!(e.refused, refused(Refusal::FactElement, 14));
+    assert!(e.to_string().starts_with("facts:2:6: refused 4 at `\"5Y`: "), "{e}");
+    assert!(e.to_string().ends_with("\n  Held \"5Y\n       ^"), "{e}");
+    let e = told(b"Held B7\r\nHeld B7 C2\r\n", QUERY);
+    assert_eq!(e.refused, refused(Refusal::Arity, 17));
+    assert!(e.to_string().starts_with("facts:2:9: refused 5 at `C2`: "), "{e}");
+    assert!(e.to_string().ends_with("\n  Held B7 C2\n          ^"), "{e}");
+    let e = told(b"Held B7\r\nOn C10\r C2\r\n", QUERY);
+    assert_eq!(e.refused, refused(Refusal::FactByte, 15));
+    assert!(e.to_string().starts_with("facts:2:7: refused 2 at byte 13: "), "{e}");
+    let rule = " or one CR (13) directly before an LF (10) or as the text's last byte";
+    assert!(e.to_string().ends_with(&format!("{rule}\n  On C10? C2\n        ^")), "{e}");
+}
+
+#[test]
+fn words_on_refused_returns() {
+    let e = told(b"Held B7\r\r\n", QUERY);
+    assert!(e.to_string().starts_with("facts:1:8: refused 2 at byte 13: "), "{e}");
+    assert!(e.to_string().ends_with("\n  Held B7?\n         ^"), "{e}");
+    let e = told(FACTS, b"PRINT Held(x);\r\nPRINT ENDL;\r\n");
+    assert!(e.to_string().starts_with("query:1:15: refused 9 at byte 13: "), "{e}");
+    let rule = ": a query's lines end in LF (10), not in CR LF (13, 10)";
+    assert!(e.to_string().ends_with(&format!("{rule}\n  PRINT Held(x);?\n                ^")), "{e}");
+    let e = told(FACTS, b"PRINT \"5Y\r\n;");
+    assert!(e.to_string().starts_with("query:1:7: refused 9 at `\"5Y`: "), "{e}");
+    assert!(e.to_string().ends_with("\n  PRINT \"5Y\n        ^"), "{e}");
+}
+
+#[test]
+fn words_where_a_limit_meets_a_line_end() {
+    let shown = |e: Explained| e.at.map(|a| (a.line, a.column, a.found, a.shown, a.caret)).unwrap();
+    let told_facts = |hashes, end: &[u8]| shown(told(&[&b"#".repeat(hashes)[..], end].concat(), QUERY));
+    assert_eq!(told_facts(32_767, b"\r\n"), (1, 32_768, vec![10], vec![b'#'; 50], 50));
+    assert_eq!(told_facts(32_768, b"\r\n"), (1, 32_769, vec![13], vec![b'#'; 50], 50));
+    assert_eq!(told_facts(32_766, b"\r\r\n"), (1, 32_767, vec![10], vec![b'#'; 50], 50));
+    assert_eq!(told_facts(32_760, b"\rOn a b c d"), (1, 32_769, b"c".to_vec(), b"On a b c d".to_vec(), 7));
+    let told_query = |blanks, end: &[u8]| shown(told(FACTS, &[&b" ".repeat(blanks)[..], end].concat()));
+    assert_eq!(told_query(16_383, b"\r\n"), (1, 16_384, vec![10], vec![b' '; 50], 50));
+    assert_eq!(told_query(16_384, b"\r\n"), (1, 16_385, vec![13], vec![b' '; 50], 50));
+}
+
+#[test]
+fn words_on_any_text_and_place() {
+    let rows = [Refusal::FactsTooLong, Refusal::FactByte, Refusal::FactElement, Refusal::Arity, Refusal::NoToken, Refusal::NoProgram];
+    let texts: [&[u8]; 6] = [b"", b"\r", b"\n\r\n", b"a\r\nb\r", b"\"\r\n\"", b"\r\r\n"];
+    for (row, text, place) in rows.iter().flat_map(|r| texts.map(|t| (0..=t.len() + 1).map(move |p| (*r, t, p)))).flatten() {
+        let e = explain(refused(row, place), text, text);
+        let at = e.at.clone().unwrap();
+        assert_eq!(at.found.is_empty(), place >= text.len(), "{e}");
+        assert!(at.caret <= at.shown.len() && !at.shown.contains(&10) && !at.shown[..at.caret].contains(&13), "{e}");
+    }
+    let at = explain(refused(Refusal::FactName, 99), b"Held B7\r\nHeld C2\r", b"").at.unwrap();
+    assert_eq!((at.line, at.column, &at.found[..], &at.shown[..], at.caret), (2, 8, &b""[..], &b"Held C2"[..], 7));
 }
 
 #[test]

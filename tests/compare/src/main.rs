@@ -3,11 +3,11 @@
 mod calls;
 
 use calls::{chain_differs, check_differs, elements_differ, run_differs, Difference, Met};
-use evaluator::cases::{chain_agrees, check_agrees, element_agrees, run_agrees};
+use evaluator::cases::{chain_agrees, check_agrees, element_agrees, holds, run_agrees};
 use evaluator::generate::{texts, Chain, Texts};
 use evaluator::json::{read, Json};
 use evaluator::run::Ending;
-use evaluator::{accept, Accepted, Refusal};
+use evaluator::{accept, either_way, Accepted, Refusal};
 
 /// Differences that are shown whole.
 const SHOWN: usize = 10;
@@ -58,6 +58,9 @@ fn runs_differ(t: &Texts, accepted: &Result<Accepted, Refusal>, met: &mut Met) -
 
 fn text_differs(t: &Texts, met: &mut Met) -> Difference {
     let accepted = accept(&t.facts, &t.query);
+    if !either_way::agrees(t, &accepted) {
+        return Err("the evaluator answers otherwise where the facts are saved with CR LF".into());
+    }
     check_differs(&t.facts, &t.query, &accepted, met)?;
     if t.elements {
         elements_differ(&t.facts, &t.query, &accepted)?;
@@ -96,28 +99,32 @@ fn chain_case_differs(c: &Json, met: &mut Met) -> Difference {
 
 fn cases(path: &str, counts: &mut Counts, met: &mut Met) {
     let all = read(&std::fs::read_to_string(path).expect("a file of cases"));
+    let of = |key: &str| all.get(key).list().iter().filter(|c| holds(c));
     let name = |c: &Json| format!("case {}", c.get("name").text());
-    all.get("cases").list().iter().for_each(|c| counts.add(&name(c), case_differs(c, met)));
-    all.get("elements").list().iter().for_each(|c| counts.add(&name(c), element_case_differs(c)));
-    all.get("chains").list().iter().for_each(|c| counts.add(&name(c), chain_case_differs(c, met)));
+    of("cases").for_each(|c| counts.add(&name(c), case_differs(c, met)));
+    of("elements").for_each(|c| counts.add(&name(c), element_case_differs(c)));
+    of("chains").for_each(|c| counts.add(&name(c), chain_case_differs(c, met)));
 }
 
-/// `--count N` texts from `--first K` on, and the cases in `--cases FILE`.
+/// Those of document 01, and those of document 02's papers.
+const CASES: [&str; 2] = [concat!(env!("CARGO_MANIFEST_DIR"), "/../cases.json"), concat!(env!("CARGO_MANIFEST_DIR"), "/../papers.json")];
+
+/// `--count N` texts from `--first K` on, and the cases in `--cases FILE` alone.
 struct Options {
     first: u64,
     count: u64,
-    cases: String,
+    cases: Vec<String>,
 }
 
 fn options() -> Options {
-    let mut found = Options { first: 0, count: 20_000, cases: concat!(env!("CARGO_MANIFEST_DIR"), "/../cases.json").into() };
+    let mut found = Options { first: 0, count: 20_000, cases: CASES.map(String::from).to_vec() };
     let mut words = std::env::args().skip(1);
     while let Some(word) = words.next() {
         let value = words.next().unwrap_or_else(|| panic!("{word} of what?"));
         match word.as_str() {
             "--first" => found.first = value.parse().expect("a number"),
             "--count" => found.count = value.parse().expect("a number"),
-            "--cases" => found.cases = value,
+            "--cases" => found.cases = vec![value],
             _ => panic!("unknown option {word}"),
         }
     }
@@ -132,7 +139,7 @@ fn main() {
         let found = text_differs(&t, &mut met);
         counts.add(&format!("text {number}"), found.map_err(|d| format!("{d}\n  facts {:?}\n  query {:?}", String::from_utf8_lossy(&t.facts), String::from_utf8_lossy(&t.query))));
     }
-    cases(&o.cases, &mut counts, &mut met);
+    o.cases.iter().for_each(|path| cases(path, &mut counts, &mut met));
     if o.first == 0 && o.count >= 20_000 {
         counts.add("texts", met.all());
     }

@@ -3,6 +3,15 @@ use crate::json::Json;
 use crate::run::Ending;
 use crate::{accept, chain, check, element, is_chain, run, Refusal};
 
+/// Papers 1 to this one of document 02 are in force.
+const PAPERS: u64 = 1;
+
+/// Whether a case holds now: one of document 02 says after which papers it does.
+pub fn holds(c: &Json) -> bool {
+    let after = c.get("holds_at").list();
+    after.is_empty() || after.iter().any(|n| n.number() == PAPERS)
+}
+
 fn refusal(j: &Json) -> Option<Refusal> {
     let l = j.get("refused").list();
     (!l.is_empty()).then(|| (l[0].number() as u32, l[1].number() as usize))

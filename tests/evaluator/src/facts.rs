@@ -52,7 +52,8 @@ pub struct Facts {
     pub universe: BTreeSet<Vec<u8>>,
 }
 
-/// The lines that are read, each with the place of its first byte.
+/// The lines that are read, each with the place of its first byte and without its end: "one byte 13 directly before byte 10, or as the last
+/// byte of the text, belong to the line end".
 fn lines(text: &[u8]) -> Vec<(usize, &[u8])> {
     let mut found = Vec::new();
     let mut at = 0;
@@ -60,7 +61,7 @@ fn lines(text: &[u8]) -> Vec<(usize, &[u8])> {
         if line.first() == Some(&b'.') {
             break;
         }
-        found.push((at, line));
+        found.push((at, line.strip_suffix(b"\r").unwrap_or(line)));
         at += line.len() + 1;
     }
     found

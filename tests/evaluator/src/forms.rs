@@ -1,6 +1,8 @@
-//! Which forms the expressions and statements of accepted texts have, by name: what the tally counts.
+//! Which forms the expressions and statements of accepted texts have, and where bytes 13 stand in texts, by name: what the tally counts.
+use crate::facts::is_legal;
 use crate::parse::{Expr, Item, Stmt, Term};
 use crate::Accepted;
+use std::collections::BTreeSet;
 
 pub struct Forms<'a> {
     texts: &'a Accepted,
@@ -127,4 +129,41 @@ pub fn of(texts: &Accepted) -> Vec<String> {
     let mut forms = Forms { texts, found: vec![format!("universe of {:2}", texts.universe.len())] };
     forms.statements(&texts.program);
     forms.found
+}
+
+/// Where a byte 13 of a line stands.
+fn place(facts: &[u8], at: usize) -> &'static str {
+    let start = facts[..at].iter().rposition(|&b| b == 10).map_or(0, |n| n + 1);
+    let before = &facts[start..at];
+    match facts.get(at + 1) {
+        None if before.is_empty() => "as the last byte, on an empty line",
+        None => "as the last byte, after others of its line",
+        Some(10) => "before byte 10",
+        Some(13) if at + 2 == facts.len() => "before another, the last byte",
+        _ if before.starts_with(b"#") => "in a comment",
+        Some(13) => "before another",
+        Some(b'.') if before.is_empty() => "before a dot at the line's start",
+        _ if before.iter().filter(|&&b| b == b'"').count() % 2 == 1 => "in quotes",
+        _ => "elsewhere in a line",
+    }
+}
+
+/// Where bytes 13 stand in facts, each place once; what else there is on the last line, and which byte at the length limit.
+pub fn bytes_13(facts: &[u8]) -> BTreeSet<String> {
+    let dot = facts.windows(2).position(|w| w == b"\n.").map_or(facts.len(), |n| n + 1);
+    let read = if facts.starts_with(b".") { b"" } else { &facts[..dot] };
+    let all = (0..facts.len()).filter(|&i| facts[i] == 13);
+    let mut found: BTreeSet<String> = all.map(|i| if i < read.len() { place(facts, i) } else { "after a dot line's dot" }.to_string()).collect();
+    let lines: Vec<&[u8]> = read.split_inclusive(|&b| b == 10).collect();
+    if found.contains("before byte 10") {
+        let alone = lines.iter().filter(|l| l.ends_with(b"\n") && !l.ends_with(b"\r\n")).count();
+        found.insert(format!("before {} byte 10", if alone == 0 { "each" } else { "not each" }));
+        if lines[lines.len() - 1].iter().any(|&b| b != 13 && !is_legal(b)) {
+            found.insert("before byte 10, and an illegal byte on the last line".into());
+        }
+    }
+    if !found.is_empty() && facts.len().abs_diff(32768) <= 1 {
+        found.insert(format!("in {} bytes, the last within the limit {}", facts.len(), facts[facts.len().min(32768) - 1]));
+    }
+    found
 }

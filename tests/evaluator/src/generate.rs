@@ -1,6 +1,6 @@
 //! Texts for comparisons: facts and queries that are mostly accepted, the same with damage, texts with several faults, and texts at each
-//! limit of document 01.
-use crate::{accept, shapes};
+//! limit of document 01; some of them saved with CR LF, as Paper 1 of document 02 allows for facts, or with bytes 13 elsewhere.
+use crate::{accept, saved, shapes};
 
 /// A small generator of pseudo-random numbers: the same seed gives the same texts on every machine.
 pub struct Random(u64);
@@ -355,7 +355,7 @@ pub fn query(r: &mut Random) -> Vec<u8> {
 
 /// Some bytes changed, left out, doubled or moved.
 pub fn damage(r: &mut Random, text: &mut Vec<u8>) {
-    const BYTES: &[u8] = b"()[]{},;:=&|!-<>\"_#. \n\tAx0/*\x00\x7f\xff";
+    const BYTES: &[u8] = b"()[]{},;:=&|!-<>\"_#. \n\tAx0/*\x00\x7f\xff\r";
     for _ in 0..1 + r.below(3) {
         let at = r.below(text.len() + 1);
         match r.below(5) {
@@ -380,7 +380,7 @@ fn repeated(n: usize, f: impl Fn(usize) -> String) -> String {
 }
 
 /// The limits of document 01 that texts can meet.
-pub const LIMITS: usize = 37;
+pub const LIMITS: usize = 40;
 
 /// Texts one below a limit (past 0), at it (1) or one past it (2). Where document 01 asks for an exact number, that is the middle one.
 pub fn limit(kind: usize, past: usize) -> (Vec<u8>, Vec<u8>) {
@@ -427,6 +427,10 @@ pub fn limit(kind: usize, past: usize) -> (Vec<u8>, Vec<u8>) {
         33 => (few, format!("PRINT {}{}P();", "!".repeat(n(3)), "P()&".repeat(510))),
         34 => (few, format!("PRINT {}{}Held(x);", "!".repeat(n(5)), "On(x,y)|".repeat(291))),
         35 => (few, format!("{}PRINT {}ENDL;", ["P();", "R(x);", "{P();}"][past], "ENDL,".repeat(1020))),
+        // a byte 13 or 10 is the last byte, or the last within the limit
+        36 => (format!("{:#<width$}\r\nOn a b\r\n", "", width = n(32768) - 10), plain),
+        37 => (format!("{:#<width$}\r\nOn a b\r", "", width = n(32768) - 9), plain),
+        38 => (format!("{:#<width$}\r\nOn a b\r\n\r", "", width = n(32768) - 11), plain),
         _ => {
             let tables = repeated(16, |r| format!("R{r} e0 e0 e0\n"));
             (format!("{tables}{}", repeated(n(64), |i| format!("R0 e{i} e{} e0\n", (i + 1) % 62))), "R1(x,y,z) := R0(x,z,y); PRINT R1(x,y,z);".into())
@@ -461,7 +465,7 @@ fn faults(r: &mut Random) -> (Vec<u8>, Vec<u8>) {
 
 /// Calls of the chain: mostly a name of pairs and elements of its lines.
 fn chains(r: &mut Random, facts: &[u8]) -> Vec<Chain> {
-    let words = |l: &[u8]| -> Vec<Vec<u8>> { l.split(|b| b" \t\"".contains(b)).filter(|w| !w.is_empty()).map(<[u8]>::to_vec).collect() };
+    let words = |l: &[u8]| -> Vec<Vec<u8>> { l.split(|b| b" \t\r\"".contains(b)).filter(|w| !w.is_empty()).map(<[u8]>::to_vec).collect() };
     let lines: Vec<Vec<Vec<u8>>> = facts.split(|&b| b == 10).map(words).collect();
     let pairs: Vec<Vec<Vec<u8>>> = lines.iter().filter(|l| l.len() == 3).cloned().collect();
     let mut found = Vec::new();
@@ -500,7 +504,8 @@ fn fewer_facts(facts: &mut Vec<u8>, query: &[u8]) -> u64 {
     }
 }
 
-/// The comparison of this number: first each limit below, at and above it, then limits, shapes and random texts, some damaged.
+/// The comparison of this number: first each limit below, at and above it, then limits, shapes and random texts, some damaged and some
+/// saved with CR LF.
 pub fn texts(number: u64) -> Texts {
     let r = &mut Random::new(number);
     let limits = 3 * LIMITS as u64;
@@ -519,11 +524,19 @@ pub fn texts(number: u64) -> Texts {
     if number >= limits && r.one_in(10) {
         damage(r, &mut facts);
     }
+    if number >= limits && r.one_in(60) {
+        query = saved::query(r, &query);
+    }
     let budget = if number < limits {
         1000
     } else {
         let nodes = fewer_facts(&mut facts, &query);
         (*r.pick(&[0, 1, 2, 3, 5, 10, 20, 50, 200])).min(NODES / nodes) as u32
+    };
+    facts = match r.below(24) {
+        0..=3 if number >= limits => saved::facts(r, &facts),
+        4..=6 if number >= limits => saved::spoiled(r, &facts),
+        _ => facts,
     };
     let spare = if number >= limits && r.one_in(8) { -1 } else { r.below(4) as i64 };
     let room = if number >= limits && r.one_in(3) { r.below(60) } else { 4000 };
@@ -540,6 +553,7 @@ fn shaped(r: &mut Random) -> Texts {
             break (facts, query, nodes);
         }
     };
+    let facts = if r.one_in(4) { saved::facts(r, &facts) } else { facts };
     let budget = (*r.pick(&[2, 5, 10, 50])).min(8 * NODES / nodes) as u32;
     let room = *r.pick(&[0, 10, 100, 1000, 40_000, 40_000]);
     Texts { facts, query, budget, spare: r.below(4) as i64, room, elements: r.one_in(30), chains: Vec::new() }

@@ -1,6 +1,7 @@
-//! An evaluator of RML over RSF for the tests: written from document 01 alone, with sets of tuples and a big-step run, so that it shares
-//! no fault with the engine or its definition.
+//! An evaluator of RML over RSF for the tests: written from documents 01 and 02 alone, with sets of tuples and a big-step run, so that it
+//! shares no fault with the engine or its definition.
 pub mod cases;
+pub mod either_way;
 pub mod facts;
 pub mod forms;
 pub mod generate;
@@ -10,6 +11,7 @@ pub mod names;
 pub mod nodes;
 pub mod parse;
 pub mod run;
+pub mod saved;
 pub mod shapes;
 pub mod tokens;
 

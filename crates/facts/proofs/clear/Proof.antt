@@ -6,7 +6,7 @@ use mathlib.Core.Path.{_≡_, refl}
 use native.Mathlib.Omega.{arith}
 use lib.ListN.{length}
 use lib.ListN.{length-set}
-use Rattle.facts.proofs.BytesLaws.{Cleared, cleared-none, cleared-one, cleared-all}
+use Rattle.facts.proofs.ClearLaws.{Cleared, cleared-none, cleared-one, cleared-all}
 
 abbrev Inv-loop : tie.InvT-loop
 Inv-loop words₀ i₀ words i = (length words ≡ length words₀) × Cleared words₀ words i

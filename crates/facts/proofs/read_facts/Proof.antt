@@ -7,7 +7,8 @@ use native.Mathlib.Omega.{arith}
 use denote.Ref.{now}
 use lib.ListN.{length, replicate}
 use Rattle.facts.specs.Pass.{limits-of}
-use Rattle.facts.specs.Reading.{LinesRead, BytesRead}
+use Rattle.breaks.specs.Bytes.{BytesRead}
+use Rattle.facts.specs.Reading.{LinesRead}
 
 check-bytes-requires : tie.Need-check-bytes-requires
 check-bytes-requires c κs = search needs
@@ -25,7 +26,7 @@ enum-told : tie.Need-enum-told
 enum-told c = search needs
 
 read-lines-requires : tie.Need-read-lines-requires
-read-lines-requires c κs = (subst (BytesRead (now (c .before .before .before .before .before .before .before .before .before .args .facts)) (now (c .before .before .before .before .before .before .before .before .before .args .query))) (c .before .before .enum-told .given .1) (c .before .before .before .before .check-bytes .ensures)) .0
+read-lines-requires c κs = (subst (BytesRead (now (c .before .before .before .before .before .before .before .before .before .args .facts))) (c .before .before .enum-told .given .1) (c .before .before .before .before .check-bytes .ensures)) .0
 
 enum-known-q-2 : tie.Need-enum-known-q-2
 enum-known-q-2 c = search needs
@@ -48,7 +49,7 @@ same-length-2 c = search needs
 returns : tie.Need-returns
 returns c =
     let s = c .before .before .before .before .before .before .before .before .before .before .before .before .before .before .before .before in
-    ((subst (BytesRead (s .args .facts .now) (s .args .query .now)) (c .before .before .before .before .before .before .before .before .before .q .given .1) (c .before .before .before .before .before .before .before .before .before .before .before .check-bytes .ensures)) (limits-of (length (s .args .relations .now)) (length (s .args .universe .now))), c .before .before .before .before .before .before .clear .ensures, c .before .before .clear2 .ensures)
+    ((subst (BytesRead (s .args .facts .now)) (c .before .before .before .before .before .before .before .before .before .q .given .1) (c .before .before .before .before .before .before .before .before .before .before .before .check-bytes .ensures)) (limits-of (length (s .args .relations .now)) (length (s .args .universe .now))), c .before .before .before .before .before .before .clear .ensures, c .before .before .clear2 .ensures)
 
 same-length-3 : tie.Need-same-length-3
 same-length-3 c = search needs
@@ -62,7 +63,7 @@ returns-2 c =
     let read-lines = c .before .before .before .before .before .before .before .before .before .before .before .before .before .before .before .read-lines in
     let r : length (read-lines .last .1 .1 .0) ≡ length (s .args .relations .now) = omega arith in
     let u : length (read-lines .last .1 .1 .1 .0) ≡ length (s .args .universe .now) = omega arith in
-    ((subst (BytesRead (s .args .facts .now) (s .args .query .now)) (c .before .before .before .before .before .before .before .before .before .before .before .before .before .before .before .before .before .before .enum-told .given .1) (c .before .before .before .before .before .before .before .before .before .before .before .before .before .before .before .before .before .before .before .before .check-bytes .ensures)) .1 (limits-of (length (s .args .relations .now)) (length (s .args .universe .now))) ∙ (subst (LinesRead (s .args .facts .now) (s .args .query .now) (s .args .relations .now) (read-lines .last .1 .1 .0) (s .args .universe .now) (read-lines .last .1 .1 .1 .0)) (c .before .before .before .before .before .before .before .before .before .q2 .given .1) (read-lines .ensures)), c .before .before .before .before .before .before .clear3 .ensures ∙ ap (λ (k : ℕ). replicate k 0) r, c .before .before .clear4 .ensures ∙ ap (λ (k : ℕ). replicate k 0) u)
+    ((subst (BytesRead (s .args .facts .now)) (c .before .before .before .before .before .before .before .before .before .before .before .before .before .before .before .before .before .before .enum-told .given .1) (c .before .before .before .before .before .before .before .before .before .before .before .before .before .before .before .before .before .before .before .before .check-bytes .ensures)) .1 (limits-of (length (s .args .relations .now)) (length (s .args .universe .now))) ∙ (subst (LinesRead (s .args .facts .now) (s .args .query .now) (s .args .relations .now) (read-lines .last .1 .1 .0) (s .args .universe .now) (read-lines .last .1 .1 .1 .0)) (c .before .before .before .before .before .before .before .before .before .q2 .given .1) (read-lines .ensures)), c .before .before .before .before .before .before .clear3 .ensures ∙ ap (λ (k : ℕ). replicate k 0) r, c .before .before .clear4 .ensures ∙ ap (λ (k : ℕ). replicate k 0) u)
 
 same-length-5 : tie.Need-same-length-5
 same-length-5 c = search needs
@@ -74,7 +75,7 @@ returns-3 : tie.Need-returns-3
 returns-3 c =
     let s = c .before .before .before .before .before .before .before .before .before .before .before .before .before .before .before .before .before in
     let read-lines = c .before .before .before .before .before .before .before .read-lines in
-    let g = (subst (LinesRead (s .args .facts .now) (s .args .query .now) (s .args .relations .now) (read-lines .last .1 .1 .0) (s .args .universe .now) (read-lines .last .1 .1 .1 .0)) (c .before .c .given .1) (read-lines .ensures)) in ((subst (BytesRead (s .args .facts .now) (s .args .query .now)) (c .before .before .before .before .before .before .before .before .before .before .enum-told .given .1) (c .before .before .before .before .before .before .before .before .before .before .before .before .check-bytes .ensures)) .1 (limits-of (length (s .args .relations .now)) (length (s .args .universe .now))) ∙ g .0, g .1, g .2)
+    let g = (subst (LinesRead (s .args .facts .now) (s .args .query .now) (s .args .relations .now) (read-lines .last .1 .1 .0) (s .args .universe .now) (read-lines .last .1 .1 .1 .0)) (c .before .c .given .1) (read-lines .ensures)) in ((subst (BytesRead (s .args .facts .now)) (c .before .before .before .before .before .before .before .before .before .before .enum-told .given .1) (c .before .before .before .before .before .before .before .before .before .before .before .before .check-bytes .ensures)) .1 (limits-of (length (s .args .relations .now)) (length (s .args .universe .now))) ∙ g .0, g .1, g .2)
 
 pub read-facts-spec : {M : Type 1} → statement M
 read-facts-spec =

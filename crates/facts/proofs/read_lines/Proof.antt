@@ -25,8 +25,14 @@ loop-holds c = (omega arith, refl, refl, reading-start _ _ _ _)
 run-end-requires : tie.Need-run-end-requires Inv-loop μ-loop
 run-end-requires c κs = c .loop .inv .0
 
+line-end-requires : tie.Need-line-end-requires Inv-loop μ-loop
+line-end-requires c κs = c .run-end .ensures .1
+
 take-line-requires : tie.Need-take-line-requires Inv-loop μ-loop
-take-line-requires c κs = let h = c .before .before .before .before .loop .inv .3 in (omega (arith, h .relations .room, held-length (h .relations)), omega (arith, h .elements .room, held-length (h .elements)), c .before .before .before .run-end .ensures .1 .0, c .before .before .before .run-end .ensures .1 .1, c .before .before .before .before .before .before .before .before .before .pre, reading-ascending _ _ _ _ h)
+take-line-requires c κs =
+    let h = c .before .before .before .before .before .loop .inv .3 in
+    let line-end = c .before .before .before .line-end in
+    (omega (arith, h .relations .room, held-length (h .relations)), omega (arith, h .elements .room, held-length (h .elements)), line-end .ensures .1 .0, omega (arith, line-end .ensures .1 .1, c .before .before .before .before .run-end .ensures .1 .1), c .before .before .before .before .before .before .before .before .before .before .pre, reading-ascending _ _ _ _ h)
 
 enum-told : tie.Need-enum-told Inv-loop μ-loop
 enum-told c = search needs
@@ -39,11 +45,12 @@ same-length-2 c = search needs
 
 returns : tie.Need-returns Inv-loop μ-loop
 returns c =
-    let s = c .before .before .before .before .before .before .before .before .before .before .before .before .before .before .before .before in
-    let l = c .before .before .before .before .before .before .before .before .before .before .before .loop in
-    let run-end = c .before .before .before .before .before .before .before .before .before .before .run-end in
+    let s = c .before .before .before .before .before .before .before .before .before .before .before .before .before .before .before .before .before in
+    let l = c .before .before .before .before .before .before .before .before .before .before .before .before .loop in
+    let run-end = c .before .before .before .before .before .before .before .before .before .before .before .run-end in
+    let line-end = c .before .before .before .before .before .before .before .before .before .before .line-end in
     let take-line = c .before .before .before .before .before .before .take-line in
-    let t = (subst (Taken (s .args .facts .now) (s .args .query .now) (line-of (s .args .facts .now) (l .a) (run-end .result)) (l .relations) (take-line .last .1 .1 .0) (l .universe) (take-line .last .1 .1 .1 .0) (l .c)) (c .enum-told .given .1) (take-line .ensures)) in reading-end _ _ _ _ (subst (λ (ls : List Line). Reading (s .args .facts .now) (s .args .query .now) (s .args .relations .now) (s .args .universe .now) ls (l .relations) (l .universe) (l .c)) (lines-dot (s .args .facts .now) (l .a) (run-end .result) (l .inv .0) (run-end .ensures .0) (run-end .ensures .1 .1) (t .0)) (l .inv .3)) (t .1) (t .2)
+    let t = (subst (Taken (s .args .facts .now) (s .args .query .now) (line-of (s .args .facts .now) (l .a) (line-end .result)) (l .relations) (take-line .last .1 .1 .0) (l .universe) (take-line .last .1 .1 .1 .0) (l .c)) (c .enum-told .given .1) (take-line .ensures)) in reading-end _ _ _ _ (subst (λ (ls : List Line). Reading (s .args .facts .now) (s .args .query .now) (s .args .relations .now) (s .args .universe .now) ls (l .relations) (l .universe) (l .c)) (lines-dot (s .args .facts .now) (l .a) (run-end .result) (l .inv .0) (run-end .ensures .0) (run-end .ensures .1 .1) (line-end .result) (line-end .ensures .0) (t .0)) (l .inv .3)) (t .1) (t .2)
 
 enum-known-q : tie.Need-enum-known-q Inv-loop μ-loop
 enum-known-q c = search needs
@@ -56,11 +63,12 @@ same-length-4 c = search needs
 
 returns-2 : tie.Need-returns-2 Inv-loop μ-loop
 returns-2 c =
-    let s = c .before .before .before .before .before .before .before .before .before .before .before .before .before .before .before .before .before in
-    let l = c .before .before .before .before .before .before .before .before .before .before .before .before .loop in
-    let run-end = c .before .before .before .before .before .before .before .before .before .before .before .run-end in
+    let s = c .before .before .before .before .before .before .before .before .before .before .before .before .before .before .before .before .before .before in
+    let l = c .before .before .before .before .before .before .before .before .before .before .before .before .before .loop in
+    let run-end = c .before .before .before .before .before .before .before .before .before .before .before .before .run-end in
+    let line-end = c .before .before .before .before .before .before .before .before .before .before .before .line-end in
     let take-line = c .before .before .before .before .before .before .before .take-line in
-    let t = (subst (Taken (s .args .facts .now) (s .args .query .now) (line-of (s .args .facts .now) (l .a) (run-end .result)) (l .relations) (take-line .last .1 .1 .0) (l .universe) (take-line .last .1 .1 .1 .0) (l .c)) (c .before .q .given .1) (take-line .ensures)) in fails-at (s .args .facts .now) (l .a) (run-end .result) (l .inv .0) (run-end .ensures .0) (run-end .ensures .1 .1) (t .0) (s .args .query .now) (s .args .relations .now) (s .args .universe .now) (l .relations) (l .universe) (l .c) (l .inv .3) (take-line .last .1 .1 .0) (take-line .last .1 .1 .1 .0) (c .before .q .given .0 .0) (t .1)
+    let t = (subst (Taken (s .args .facts .now) (s .args .query .now) (line-of (s .args .facts .now) (l .a) (line-end .result)) (l .relations) (take-line .last .1 .1 .0) (l .universe) (take-line .last .1 .1 .1 .0) (l .c)) (c .before .q .given .1) (take-line .ensures)) in fails-at (s .args .facts .now) (l .a) (run-end .result) (line-end .result) (l .inv .0) (run-end .ensures .0) (run-end .ensures .1 .1) (line-end .ensures .0) (t .0) (s .args .query .now) (s .args .relations .now) (s .args .universe .now) (l .relations) (l .universe) (l .c) (l .inv .3) (take-line .last .1 .1 .0) (take-line .last .1 .1 .1 .0) (c .before .q .given .0 .0) (t .1)
 
 enum-known-d : tie.Need-enum-known-d Inv-loop μ-loop
 enum-known-d c = search needs
@@ -73,25 +81,27 @@ same-length-6 c = search needs
 
 returns-3 : tie.Need-returns-3 Inv-loop μ-loop
 returns-3 c =
-    let s = c .before .before .before .before .before .before .before .before .before .before .before .before .before .before .before .before .before .before in
-    let l = c .before .before .before .before .before .before .before .before .before .before .before .before .before .loop in
-    let run-end = c .before .before .before .before .before .before .before .before .before .before .before .before .run-end in
+    let s = c .before .before .before .before .before .before .before .before .before .before .before .before .before .before .before .before .before .before .before in
+    let l = c .before .before .before .before .before .before .before .before .before .before .before .before .before .before .loop in
+    let run-end = c .before .before .before .before .before .before .before .before .before .before .before .before .before .run-end in
+    let line-end = c .before .before .before .before .before .before .before .before .before .before .before .before .line-end in
     let take-line = c .before .before .before .before .before .before .before .before .take-line in
-    let t = (subst (Taken (s .args .facts .now) (s .args .query .now) (line-of (s .args .facts .now) (l .a) (run-end .result)) (l .relations) (take-line .last .1 .1 .0) (l .universe) (take-line .last .1 .1 .1 .0) (l .c)) (c .before .before .d .given .1) (take-line .ensures)) in reading-end _ _ _ _ (reading-more _ _ _ _ (subst (λ (ls : List Line). Reading (s .args .facts .now) (s .args .query .now) (s .args .relations .now) (s .args .universe .now) ls (l .relations) (l .universe) (l .c)) (lines-last (s .args .facts .now) (l .a) (run-end .result) (l .inv .0) (run-end .ensures .0) (run-end .ensures .1 .1) (t .0) (c .if1 .taken)) (l .inv .3)) (c .before .before .d .given .0 .0) t) refl refl
+    let t = (subst (Taken (s .args .facts .now) (s .args .query .now) (line-of (s .args .facts .now) (l .a) (line-end .result)) (l .relations) (take-line .last .1 .1 .0) (l .universe) (take-line .last .1 .1 .1 .0) (l .c)) (c .before .before .d .given .1) (take-line .ensures)) in reading-end _ _ _ _ (reading-more _ _ _ _ (subst (λ (ls : List Line). Reading (s .args .facts .now) (s .args .query .now) (s .args .relations .now) (s .args .universe .now) ls (l .relations) (l .universe) (l .c)) (lines-last (s .args .facts .now) (l .a) (run-end .result) (l .inv .0) (run-end .ensures .0) (run-end .ensures .1 .1) (line-end .result) (line-end .ensures .0) (t .0) (c .if1 .taken)) (l .inv .3)) (c .before .before .d .given .0 .0) t) refl refl
 
 add-a : tie.Need-add-a Inv-loop μ-loop
-add-a c = omega (arith, c .before .before .before .before .before .before .before .before .before .before .before .before .run-end .ensures .1, c .if1 .left)
+add-a c = omega (arith, c .before .before .before .before .before .before .before .before .before .before .before .before .before .run-end .ensures .1, c .if1 .left)
 
 loop-less : tie.Need-loop-less Inv-loop μ-loop
-loop-less c = omega (arith, c .before .before .before .before .before .before .before .before .before .before .before .before .run-end .ensures .1, c .if1 .left)
+loop-less c = omega (arith, c .before .before .before .before .before .before .before .before .before .before .before .before .before .run-end .ensures .1, c .if1 .left)
 
 loop-again : tie.Need-loop-again Inv-loop μ-loop
 loop-again c =
-    let s = c .before .before .before .before .before .before .before .before .before .before .before .before .before .before .before .before .before .before in
-    let l = c .before .before .before .before .before .before .before .before .before .before .before .before .before .loop in
-    let run-end = c .before .before .before .before .before .before .before .before .before .before .before .before .run-end in
+    let s = c .before .before .before .before .before .before .before .before .before .before .before .before .before .before .before .before .before .before .before in
+    let l = c .before .before .before .before .before .before .before .before .before .before .before .before .before .before .loop in
+    let run-end = c .before .before .before .before .before .before .before .before .before .before .before .before .before .run-end in
+    let line-end = c .before .before .before .before .before .before .before .before .before .before .before .before .line-end in
     let take-line = c .before .before .before .before .before .before .before .before .take-line in
-    let t = (subst (Taken (s .args .facts .now) (s .args .query .now) (line-of (s .args .facts .now) (l .a) (run-end .result)) (l .relations) (take-line .last .1 .1 .0) (l .universe) (take-line .last .1 .1 .1 .0) (l .c)) (c .before .before .d .given .1) (take-line .ensures)) in let g = reading-more _ _ _ _ (subst (λ (ls : List Line). Reading (s .args .facts .now) (s .args .query .now) (s .args .relations .now) (s .args .universe .now) ls (l .relations) (l .universe) (l .c)) (lines-more (s .args .facts .now) (l .a) (run-end .result) (l .inv .0) (run-end .ensures .0) (run-end .ensures .1 .1) (t .0) (omega (arith, run-end .ensures .1, c .if1 .left))) (l .inv .3)) (c .before .before .d .given .0 .0) t in (omega (arith, run-end .ensures .1, c .if1 .left), held-length (g .relations), held-length (g .elements), g)
+    let t = (subst (Taken (s .args .facts .now) (s .args .query .now) (line-of (s .args .facts .now) (l .a) (line-end .result)) (l .relations) (take-line .last .1 .1 .0) (l .universe) (take-line .last .1 .1 .1 .0) (l .c)) (c .before .before .d .given .1) (take-line .ensures)) in let g = reading-more _ _ _ _ (subst (λ (ls : List Line). Reading (s .args .facts .now) (s .args .query .now) (s .args .relations .now) (s .args .universe .now) ls (l .relations) (l .universe) (l .c)) (lines-more (s .args .facts .now) (l .a) (run-end .result) (l .inv .0) (run-end .ensures .0) (run-end .ensures .1 .1) (line-end .result) (line-end .ensures .0) (t .0) (omega (arith, run-end .ensures .1, c .if1 .left))) (l .inv .3)) (c .before .before .d .given .0 .0) t in (omega (arith, run-end .ensures .1, c .if1 .left), held-length (g .relations), held-length (g .elements), g)
 
 pub read-lines-spec : {M : Type 1} → statement M
 read-lines-spec =
@@ -101,6 +111,7 @@ read-lines-spec =
     μ-loop
     loop-holds
     run-end-requires
+    line-end-requires
     take-line-requires
     enum-told
     same-length

@@ -11,7 +11,8 @@ use Rattle.facts.specs.declared.LineRead.{LineRead}
 use Rattle.facts.specs.Lines.{role, role-of, ReadWithin}
 use Rattle.facts.specs.Pass.{FactTaken}
 use Rattle.facts.specs.Reading.{line-of}
-use Rattle.facts.proofs.TakeLaws.{taken-dot, taken-skip, taken-wrong, taken-refused, taken-fact, line-size, all-wider}
+use Rattle.breaks.proofs.FirstLine.{line-size}
+use Rattle.facts.proofs.TakeLaws.{taken-dot, taken-skip, taken-wrong, taken-refused, taken-fact, all-wider}
 
 -- what was read is said of the line
 role-is : (c : tie.After-read-line) (r : LineRead) → c .read-line .result ≡ r

@@ -31,20 +31,26 @@ is-legal-requires c κs = search needs
 enum-told-5 : tie.Need-enum-told-5
 enum-told-5 c = search needs
 
+is-between-requires : tie.Need-is-between-requires
+is-between-requires c κs = search needs
+
 enum-told-6 : tie.Need-enum-told-6
 enum-told-6 c = search needs
 
 enum-told-7 : tie.Need-enum-told-7
 enum-told-7 c = search needs
 
-returns : tie.Need-returns
-returns c = simp (c .before .enum-told7 .given .1, eq-eqb _ _ (c .if1 .taken))
-
 enum-told-8 : tie.Need-enum-told-8
 enum-told-8 c = search needs
 
+returns : tie.Need-returns
+returns c = simp (c .before .enum-told8 .given .1, eq-eqb _ _ (c .if1 .taken))
+
+enum-told-9 : tie.Need-enum-told-9
+enum-told-9 c = search needs
+
 returns-2 : tie.Need-returns-2
-returns-2 c = simp (c .before .enum-told8 .given .1, eq-eqb _ _ (c .if2 .taken))
+returns-2 c = simp (c .before .enum-told9 .given .1, eq-eqb _ _ (c .if2 .taken))
 
 is-blank-requires-3 : tie.Need-is-blank-requires-3
 is-blank-requires-3 c κs = search needs
@@ -62,16 +68,19 @@ returns-6 : tie.Need-returns-6
 returns-6 c = c .is-legal .ensures ∙ simp (c .before .enum-told4 .given .1)
 
 returns-7 : tie.Need-returns-7
-returns-7 c = simp (c .enum-told5 .given .1)
+returns-7 c = c .is-between .ensures ∙ simp (c .before .enum-told5 .given .1)
 
 returns-8 : tie.Need-returns-8
 returns-8 c = simp (c .enum-told6 .given .1)
 
 returns-9 : tie.Need-returns-9
-returns-9 c = simp (c .before .enum-told7 .given .1, ne-eqb _ _ (c .if1 .left))
+returns-9 c = simp (c .enum-told7 .given .1)
 
 returns-10 : tie.Need-returns-10
-returns-10 c = simp (c .before .before .enum-told8 .given .1, ne-eqb _ _ (c .before .if2 .left), c .is-blank3 .ensures)
+returns-10 c = simp (c .before .enum-told8 .given .1, ne-eqb _ _ (c .if1 .left))
+
+returns-11 : tie.Need-returns-11
+returns-11 c = simp (c .before .before .enum-told9 .given .1, ne-eqb _ _ (c .before .if2 .left), c .is-blank3 .ensures)
 
 pub of-class-spec : {M : Type 1} → statement M
 of-class-spec =
@@ -86,10 +95,12 @@ of-class-spec =
     enum-told-4
     is-legal-requires
     enum-told-5
+    is-between-requires
     enum-told-6
     enum-told-7
-    returns
     enum-told-8
+    returns
+    enum-told-9
     returns-2
     is-blank-requires-3
     returns-3
@@ -99,4 +110,5 @@ of-class-spec =
     returns-7
     returns-8
     returns-9
-    returns-10)
+    returns-10
+    returns-11)

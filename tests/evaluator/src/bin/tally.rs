@@ -1,4 +1,5 @@
-//! How many generated texts are accepted, how the others are refused, and which forms the accepted ones have: what the comparisons reach.
+//! How many generated texts are accepted, how the others are refused, which forms the accepted ones have, and where bytes 13 stand: what
+//! the comparisons reach.
 use evaluator::generate::{texts, LIMITS};
 use evaluator::{accept, chain, forms};
 use std::collections::BTreeMap;
@@ -9,6 +10,10 @@ fn main() {
     for number in 0..count {
         let t = texts(number);
         let accepted = accept(&t.facts, &t.query);
+        forms::bytes_13(&t.facts).into_iter().for_each(|place| *tally.entry(format!("byte 13 {place}")).or_default() += 1);
+        if t.query.contains(&13) {
+            *tally.entry("byte 13 in the query".into()).or_default() += 1;
+        }
         if let Ok(w) = &accepted {
             forms::of(w).into_iter().for_each(|form| *tally.entry(form).or_default() += 1);
         }

@@ -1,12 +1,12 @@
-use Rattle.facts.proofs.read_end.Statement.{statement}
-use Rattle.facts.proofs.read_end.Tie as tie
+use Rattle.breaks.proofs.read_end.Statement.{statement}
+use Rattle.breaks.proofs.read_end.Tie as tie
 use borrow.Author.Needs.{needs}
 use Prim.Native.Nat.{_≤_, _-_}
 use mathlib.Core.Path.{sym, _∙_}
 use native.Mathlib.Omega.{arith}
 use denote.Ref.{now}
 use lib.ListN.{length}
-use Rattle.facts.proofs.BytesLaws.{ReadTo, to-start, to-dot, to-last, to-next}
+use Rattle.breaks.proofs.BytesLaws.{ReadTo, to-start, to-dot, to-last, to-next}
 
 abbrev Inv-loop : tie.InvT-loop
 Inv-loop facts a₀ a = (a ≤ length facts) × ReadTo facts a

@@ -1,7 +1,7 @@
 use borrow.Author.Needs.{needs}
-use Rattle.facts.proofs.starts_with.Statement.{statement}
-use Rattle.facts.proofs.starts_with.Tie as tie
-use Rattle.facts.proofs.WordLaws.{starts-empty, starts-first}
+use Rattle.texts.proofs.starts_with.Statement.{statement}
+use Rattle.texts.proofs.starts_with.Tie as tie
+use Rattle.texts.proofs.OrderLaws.{starts-empty, starts-first}
 
 returns : tie.Need-returns
 returns c = starts-empty _ _ (c .if1 .taken)
