@@ -57,6 +57,8 @@ QUERIES = {
 NOT = "\\+"  # as SWI-Prolog writes it
 DEPTHS = [(64, range(1, 5)), (8, range(1, 8))]
 LENGTH = 32768  # bytes of facts
+# the last four repeat repeats, three of them as deep as 32 bytes allow
+PATTERNS = ["^aab", "[0-9]+Y$", "b(a|bb)*$", ".*a.*b.*a.*b.*a.*b$", "(a*)*c", "(((a{0,8}){0,8}){0,8}){0,8}", "^(((a?){8,8}){8,8}){8,8}c", "^(((((((((a+)+)+)+)+)+)+)+)+)+"]
 LIMIT = 2  # seconds: nested quantifiers that take longer are not measured
 
 
@@ -230,9 +232,24 @@ def reading():
     table(["line ends", "lines", "bytes", "check", "run"], rows)
 
 
+def picking():
+    """Patterns over 64 elements of 32 bytes each, which end in all ways to write a and b six times. A check lowers the query, so it matches them."""
+    elements = ["a" * 26 + f"{i:06b}".replace("0", "a").replace("1", "b") for i in range(64)]
+    path = file("long.rsf", "".join(f"Element {e}\n" for e in elements))
+    (without, _), _ = program(os.path.join(to, "relcalc"), path, file("query.rml", "PRINT Element(x);"))
+    rows = []
+    for pattern in PATTERNS:
+        (check, run), picked = program(os.path.join(to, "relcalc"), path, file("query.rml", f'PRINT @"{pattern}"(x);'))
+        rows.append([f"`{pattern}`".replace("|", "\\|"), str(len(picked)), f"{check:,.1f}", f"{run:,.1f}", f"{(check - without) / 64:,.2f}"])
+    table(["pattern", "elements picked", "check", "run", "one match"], rows)
+    print(f"\nThe check of `PRINT Element(x);` takes {without:,.1f}.")
+
+
 print(f"SQLite {sqlite3.sqlite_version}, Python {sys.version.split()[0]}; shortest times in microseconds\n")
 compared()
 print()
 nested()
 print()
 reading()
+print()
+picking()

@@ -39,8 +39,9 @@ extern "C" {
 
 /* Why a call refuses: `refusal`, with what `place` then holds. 0 is no refusal.
    Rows are tested in this order: 1; 2 over all lines read; then line by line, in each 3, then per element 4 and, at the first too
-   many, 5; then 5 for another arity, 6, 7. Then 8; 9; 13 for tokens; 10 with 13 for nesting, left to right; 11, 5, 6 by token; 13 then
-   12 by statement; 7; 14. So a refusal 5, 6 or 7 is one of the facts exactly where the facts with an empty query have it too. */
+   many, 5; then 5 for another arity, 6, 7. Then 8; 9; 13 for tokens; 10 with 13 for nesting, left to right; 18 by token; 11, 5, 6 by
+   token; 13 then 12 by statement; 7; 14. So a refusal 5, 6 or 7 is one of the facts exactly where the facts with an empty query have it
+   too. */
 enum {
     RELCALC_FACTS_TOO_LONG = 1,      /* 32768: facts over 32,768 bytes */
     RELCALC_FACT_BYTE = 2,           /* the byte: in the lines read, not 9, 10 or 32..126, and no 13 that belongs to a line end */
@@ -62,7 +63,10 @@ enum {
     RELCALC_STORE_SHORT = 14,        /* the words needed: more than the store has */
     RELCALC_NOT_IN_FACTS = 15,       /* 0: no binary relation so named, or one of the elements not in the facts */
     RELCALC_BUFFER_SHORT = 16,       /* 0: buffer under 65 bytes */
-    RELCALC_NO_CHAIN = 17            /* 0: no chain exists */
+    RELCALC_NO_CHAIN = 17,           /* 0: no chain exists */
+    RELCALC_PATTERN = 18             /* the string after an @, its opening quote: an empty or malformed pattern. A pattern is one or more
+                                        branches parted by "|", each one or more of "^", "$", or a character, ".", set or "(" pattern ")"
+                                        with at most one of "*", "+", "?", "{m,n}"; docs/QUERIES.md has the forms */
 };
 
 /* Which text a part stands in. */
@@ -85,7 +89,7 @@ typedef struct {
 } relcalc_checked;
 
 /* Whether a run would accept the texts with store enough, and what it needs.
-   Accepted: refusal and place are 0; the records are in store order, unused ones all zero. Refused, 1 to 13: all else is 0.
+   Accepted: refusal and place are 0; the records are in store order, unused ones all zero. Refused, 1 to 13 or 18: all else is 0.
    Writes nothing that is lent. */
 relcalc_checked relcalc_check(const uint8_t *facts, size_t facts_len, const uint8_t *query, size_t query_len);
 
@@ -104,7 +108,7 @@ typedef struct {
    words, 3 takes U * U; tuple (a) is bit a, (a,b) bit b of word a, (a,b,c) bit c of word U * a + b, the empty tuple bit 0, counted from
    the relation's first word; other bits are zero. The words from there to those needed are zero, later ones unchanged. The output holds
    the bytes written, later ones unchanged.
-   Refused, 1 to 14: ending, steps and written are 0; store and output are unchanged.
+   Refused, 1 to 14 or 18: ending, steps and written are 0; store and output are unchanged.
    Steps are not time: one step may take long where quantifiers nest (docs/PERFORMANCE.md). */
 relcalc_ran relcalc_run(const uint8_t *facts, size_t facts_len, const uint8_t *query, size_t query_len, uint32_t budget,
                         uint64_t *store, size_t store_len, uint8_t *output, size_t output_len);
@@ -114,8 +118,8 @@ typedef struct {
 } relcalc_part;
 
 /* The text of element n of a run of these texts, without quotes: its first place in the facts or, if no fact holds it, the first
-   left-hand string of the query. Where n is not below U, or the texts are refused (1 to 13): text 1, offset 0, length 0, which no
-   element has. Never refuses; writes nothing that is lent. */
+   left-hand string of the query. Where n is not below U, or the texts are refused (1 to 13 or 18): text 1, offset 0, length 0, which
+   no element has. Never refuses; writes nothing that is lent. */
 relcalc_part relcalc_element(const uint8_t *facts, size_t facts_len, const uint8_t *query, size_t query_len, size_t n);
 
 typedef struct {

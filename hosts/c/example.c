@@ -1,4 +1,4 @@
-/* The worked example, then a refusal. */
+/* The worked example, curves picked by a pattern, then a refusal. */
 #include "relcalc.h"
 
 #include <stdio.h>
@@ -25,6 +25,7 @@ static int run(const char *query)
 int main(void)
 {
     int first = run("Dep(x,y) := TC(On(x,y)); PRINT [\"Dep\"] Dep(x,y);");
-    int second = run("Dep(x) := TC(On(x,y));"); /* y is free on the right side only: refused 12 0 */
-    return !(first == 0 && second == 1);
+    int second = run("PRINT [\"starts with C1:\"] On(x,_) & @\"^C1\"(x);");
+    int third = run("Dep(x) := TC(On(x,y));"); /* y is free on the right side only: refused 12 0 */
+    return !(first == 0 && second == 0 && third == 1);
 }

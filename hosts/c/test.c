@@ -1,4 +1,5 @@
-/* The calls from C: the worked example, facts saved with CR LF, refusals, null and equal texts, the largest sizes, a small stack. */
+/* The calls from C: the worked example, facts saved with CR LF, patterns, refusals, null and equal texts, the largest sizes, a small
+   stack. */
 #define _POSIX_C_SOURCE 200809L
 #include "lent.h"
 #include "relcalc.h"
@@ -150,6 +151,49 @@ static void returns_elsewhere(void)
     EXPECT(c.refusal == RELCALC_FACT_BYTE && c.place == 5 && !c.count && numbers[0] == 9 && numbers[1] == 9);
 }
 
+static char *picking(const char *pattern)
+{
+    static char query[64];
+    sprintf(query, "PRINT @\"%s\"(x);", pattern);
+    return query;
+}
+
+static int prints(const char *query, uint64_t steps, const char *lines)
+{
+    return ended(run(F, query, 99, store, RELCALC_STORE_WORDS, output, sizeof output), RELCALC_DONE, steps, strlen(lines)) &&
+           !memcmp(output, lines, strlen(lines));
+}
+
+static void patterns(void)
+{
+    EXPECT(prints(picking("^C1"), 1, "C10\n"));
+    EXPECT(prints(picking("C"), 1, "C10\nC2\nC5\n"));
+    EXPECT(prints(picking("c"), 1, ""));
+    EXPECT(prints(picking("^C.$"), 1, "C2\nC5\n"));
+    EXPECT(prints(picking("[^C2-5]$"), 1, "B7\nC10\n"));
+    EXPECT(prints(picking("^C1*0?2+$|7"), 1, "B7\nC2\n"));
+    EXPECT(prints(picking("^(B|C1){1,1}.$"), 1, "B7\nC10\n"));
+    EXPECT(prints(picking("\\C\\5"), 1, "C5\n"));
+    EXPECT(prints(picking("a*^B"), 1, "B7\n"));
+    EXPECT(prints("Q(x) := On(x,_) & @\"^C1\"(x); PRINT Q(x);", 2, "C10\n"));
+    EXPECT(prints("PRINT [\"a\"] @\"^C\"(\"C2\"), [\"b\"] @\".\"(\"Z\"), [\"c\"] @\"7$\"(_);", 1, "a\nc\n"));
+    EXPECT(checked(F, picking("Z"), 0, 0, 4));
+}
+
+static void refused_patterns(void)
+{
+    static const char *const wrong[] = {"", "a|", "()", "*a", "^*", "a**", "a{3}", "(a", "a)", "[]", "[b-a]", "[[:alpha:]]", "\\"};
+    for (size_t i = 0; i < sizeof wrong / sizeof *wrong; i++)
+        expect(checked(F, picking(wrong[i]), RELCALC_PATTERN, 7, 0), wrong[i]);
+    EXPECT(is_part(element(F, picking("("), 0), RELCALC_IN_QUERY, 0, 0));
+    EXPECT(checked(F, "PRINT @\"a\"(x), @ \"(\" (x), @\"\"(x);", RELCALC_PATTERN, 17, 0));
+    EXPECT(checked(F, "IF FALSE() { PRINT @\"(\"(x); }", RELCALC_PATTERN, 20, 0));
+    EXPECT(checked(F, "PRINT @\"\"(On);", RELCALC_PATTERN, 7, 0));
+    EXPECT(checked(F, "PRINT @\"(\"(x)", RELCALC_NO_PROGRAM, 13, 0));
+    EXPECT(checked(F, "FOR v IN Held(x) { PRINT @v(x); }", RELCALC_NO_PROGRAM, 26, 0));
+    EXPECT(checked(F, "PRINT @\"a\"(On);", RELCALC_KIND, 11, 0));
+}
+
 static void refusals(void)
 {
     memset(store, 7, sizeof store), memset(output, 7, sizeof output);
@@ -157,6 +201,7 @@ static void refusals(void)
     EXPECT(refused(run(F, "PRINT On(x,y)", 9, store, 76, output, 64), RELCALC_NO_PROGRAM, 13));
     EXPECT(refused(run("Held B7\r\r\n", "PRINT ENDL;", 9, store, 76, output, 64), RELCALC_FACT_BYTE, 7));
     EXPECT(refused(run(F, "PRINT ENDL;\r\n", 9, store, 76, output, 64), RELCALC_NO_TOKEN, 11));
+    EXPECT(refused(run(F, picking("C{3}"), 9, store, 76, output, 64), RELCALC_PATTERN, 7));
     int same = 1;
     for (size_t i = 0; i < 76; i++)
         same &= store[i] == 0x0707070707070707;
@@ -249,6 +294,9 @@ static void small_stack(void)
         { "one within 32 EX and comparisons", stack_used(deep_query("EX(x,", 32, 438, "P()", ">=P())", "<=P())")) },
         { "one with two columns", stack_used(deep_query("", 0, 510, "On(x,y)", "", "")) },
         { "one with a column within 32 EX", stack_used(deep_query("EX(y,", 32, 470, "On(x,y)", ")", ")")) },
+        { "a pattern of 15 groups within 32 levels",
+          stack_used(deep_query("(", 32, 0, "@\"(((((((((((((((a)))))))))))))))\"(_)", ")", ")")) },
+        { "a pattern of 9 repeated groups", stack_used(deep_query("", 0, 0, "@\"(((((((((a*)*)*)*)*)*)*)*)*)*x\"(_)", "", "")) },
     };
     for (size_t i = 0; i < sizeof stacks / sizeof *stacks; i++) {
         printf("stack: %zu bytes in %s\n", stacks[i].used, stacks[i].shape);
@@ -262,6 +310,8 @@ int main(void)
     facts_with_cr_lf();
     line_ends();
     returns_elsewhere();
+    patterns();
+    refused_patterns();
     refusals();
     empty_and_equal();
     largest_sizes();

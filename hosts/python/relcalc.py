@@ -9,11 +9,14 @@ A text is bytes, a string (its UTF-8 bytes; only ASCII is accepted), or None for
 import ctypes
 import enum
 import os
+import re
 from dataclasses import dataclass
+
+from relcalc_pattern import Fault, first_fault
 
 STORE_WORDS = 70656  # enough for every accepted pair of texts
 CHAIN_BYTES = 65  # the least buffer for a chain, and enough for each
-BEFORE, AFTER = 50, 30  # bytes of a line that are shown before and after a place
+BEFORE, AFTER = 50, 40  # bytes of a line that are shown before and after a place; a string that begins there is shown whole
 
 
 class Ending(enum.Enum):
@@ -28,7 +31,7 @@ class Text(enum.Enum):
 
 
 class Refusal(enum.Enum):
-    """Why a call refuses, by the numbers of document 01's table."""
+    """Why a call refuses, by the numbers of documents 01 and 02."""
 
     FACTS_TOO_LONG = 1
     FACT_BYTE = 2
@@ -47,6 +50,7 @@ class Refusal(enum.Enum):
     NOT_IN_FACTS = 15
     BUFFER_SHORT = 16
     NO_CHAIN = 17
+    PATTERN = 18
 
 
 RULES = {
@@ -72,6 +76,8 @@ RULES = {
     Refusal.NOT_IN_FACTS: "the facts hold a binary relation of this name and both elements",
     Refusal.BUFFER_SHORT: "a chain's buffer has at least 65 bytes",
     Refusal.NO_CHAIN: "no chain exists",
+    Refusal.PATTERN: "a pattern is one or more branches parted by |, each one or more pieces: ^, $, or a character, ., set or group with "
+    "at most one repeat sign *, +, ? or {m,n}",
 }
 
 
@@ -136,11 +142,15 @@ class At:
 
 @dataclass(frozen=True)
 class Explained:
-    """Where and why texts were refused; `at` is None for 14 to 17, whose place is no place in a text."""
+    """Where and why texts were refused; `at` is None for 14 to 17, whose place is no place in a text.
+
+    `fault` is what is wrong with a refused pattern, where that can be told; the caret is then shown under its byte.
+    """
 
     refused: Refused
     at: At
     rule: str
+    fault: Fault = None
 
     def __str__(self):
         number = self.refused.refusal.value
@@ -148,7 +158,11 @@ class Explained:
             return f"refused {number} ({self.refused.place}): {self.rule}"
         place = f"{self.at.text.name.lower()}:{self.at.line}:{self.at.column}"
         head = f"{place}: refused {number} at {_named(self.at.found)}: {self.rule}"
-        return f"{head}\n  {_plain(self.at.shown)}\n  {' ' * self.at.caret}^"
+        caret = self.at.caret
+        if self.fault is not None:
+            head += f"; here {self.fault.reason}"
+            caret += 1 + self.fault.offset  # a pattern begins after its string's quote
+        return f"{head}\n  {_plain(self.at.shown)}\n  {' ' * caret}^"
 
 
 def _words(*names):
@@ -252,12 +266,12 @@ class Relcalc:
         facts, query = _bytes(facts), _bytes(query)
         which = self._text_of(refused, facts)
         at = which and _at(refused, which, facts if which is Text.FACTS else query)
-        return Explained(refused, at, RULES[refused.refusal])
+        return Explained(refused, at, RULES[refused.refusal], at and _fault_of(refused, at.found))
 
     def _text_of(self, refused, facts):
         """Which text the place is in. 5, 6 and 7 are of the facts where the facts alone have them."""
         number = refused.refusal.value
-        if number > 13:
+        if 13 < number < 18:
             return None
         if number < 5:
             return Text.FACTS
@@ -316,6 +330,12 @@ def _at(refused, which, text):
     first = max(start, seen - BEFORE, text.rfind(b"\r", start, seen) + 1)
     shown = text[first : min(end, seen + AFTER)]
     return At(which, text.count(b"\n", 0, place) + 1, seen - start + 1, found, shown, seen - first)
+
+
+def _fault_of(refused, found):
+    """What is wrong with the string that was found, if it was refused as a pattern."""
+    string = re.fullmatch(rb'"([^"]*)"', found)
+    return first_fault(string[1]) if string and refused.refusal is Refusal.PATTERN else None
 
 
 def _plain(text):

@@ -1,10 +1,13 @@
-"""The wrapper over the shared object: the worked example, facts saved with CR LF, refusals, empty and equal texts, the largest sizes."""
+"""The wrapper over the shared object: the worked example, facts saved with CR LF, patterns, refusals, empty and equal texts, the largest
+sizes."""
+import itertools
 import os
 import re
 import sys
 import unittest
 
 from relcalc import CHAIN_BYTES, STORE_WORDS, Ending, Part, Refusal, Refused, Relcalc, Text
+from relcalc_pattern import Fault, first_fault
 
 FACTS = b"On C10 C5\nOn C5 C2\nOn B7 C10\nHeld B7\n"
 FACTS_CR_LF = b"On C10 C5\r\nOn C5 C2\r\nOn B7 C10\r\nHeld B7\r\n"
@@ -14,13 +17,86 @@ GUIDE = os.path.join(os.path.dirname(os.path.abspath(__file__)), "..", "..", "do
 rc = Relcalc()
 
 
-def guide_rows():
-    """The cells of the guide's rows with an example, and the words in code of the last two."""
+# where each is wrong, and how
+NO_PATTERNS = [
+    (b"", 0, "an empty pattern"),
+    (b"a|", 2, "an empty branch or group"),
+    (b"|a", 0, "an empty branch or group"),
+    (b"a||b", 2, "an empty branch or group"),
+    (b"a|b|", 4, "an empty branch or group"),
+    (b"a()b", 2, "an empty branch or group"),
+    (b"(())", 2, "an empty branch or group"),
+    (b"(a|)", 3, "an empty branch or group"),
+    (b"*a", 0, "a repeat sign with nothing before it"),
+    (b"a|+", 2, "a repeat sign with nothing before it"),
+    (b"({1,2})", 1, "a repeat sign with nothing before it"),
+    (b"^*", 1, "a repeat sign after ^ or $"),
+    (b"(a$)?$?", 6, "a repeat sign after ^ or $"),
+    (b"^{0,1}", 1, "a repeat sign after ^ or $"),
+    (b"a**", 2, "a second repeat sign"),
+    (b"a+?", 2, "a second repeat sign"),
+    (b"[*]{1,2}*", 8, "a second repeat sign"),
+    (b"a*{1,2}", 2, "a second repeat sign"),
+    *((b"a{" + rest, 1, "a { that opens no {m,n} with 0 <= m <= n <= 8, one digit each")
+      for rest in (b"", b"1", b"3}", b"1,}", b",2}", b"01,2}", b"1, 2}", b"2,1}", b"0,9}", b"1,2", b"1-2}")),
+    (b"(a", 0, "a group that is not closed"),
+    (b"((a)", 0, "a group that is not closed"),
+    (b"(a|(", 3, "a group that is not closed"),
+    (b"(a\\)", 0, "a group that is not closed"),
+    (b"a)", 1, "a ) without its ("),
+    (b"(a))|b", 3, "a ) without its ("),
+    (b")(", 0, "a ) without its ("),
+    (b"a[", 1, "a set that is not closed"),
+    (b"[]", 0, "a set that is not closed"),
+    (b"[^]", 0, "a set that is not closed"),
+    (b"(a[b)", 2, "a set that is not closed"),
+    (b"[a-", 0, "a set that is not closed"),
+    (b"[b-a]", 1, "a range that falls"),
+    (b"[a-cz-x]", 4, "a range that falls"),
+    (b"[a--]", 1, "a range that falls"),
+    (b"[^a-\\]", 2, "a range that falls"),
+    (b"[[:alpha:]]", 1, "[: or [. or [= in a set"),
+    (b"[[.]", 1, "[: or [. or [= in a set"),
+    (b"[a[=]", 2, "[: or [. or [= in a set"),
+    (b"[A-[.]", 3, "[: or [. or [= in a set"),
+    (b"\\", 0, "a backslash at the end"),
+    (b"a\\\\\\", 3, "a backslash at the end"),
+]
+# what is picked out of B7, C10, C2, C5
+PATTERNS = [
+    (b"^C1", b"C10"),
+    (b"C", b"C10 C2 C5"),
+    (b"c", b""),
+    (b"^C.$", b"C2 C5"),
+    (b"[1-5]", b"C10 C2 C5"),
+    (b"[^C2-5]$", b"B7 C10"),
+    (b"[]7-]", b"B7"),
+    (b"^C1*0?2+$|7", b"B7 C2"),
+    (b"^(B|C1){1,1}.$", b"B7 C10"),
+    (b"^.{3,8}$", b"C10"),
+    (b"C{0,0}7", b"B7"),
+    (b"\\C\\5", b"C5"),
+    (b"^^B", b"B7"),
+    (b"(^)*7$$", b"B7"),
+    (b"a*^B", b"B7"),
+    (b"C^2", b""),
+    (b"(^|C1)0", b"C10"),
+    (b"[.]|[:]|[^^]{3,3}", b"C10"),
+    (b"]|}|-|,|:| |\t|[[]|[a-c-e]", b""),
+]
+
+
+def picking(pattern):
+    return b'PRINT @"' + pattern + b'"(x);'
+
+
+def guide_rows(width):
+    """The cells of the guide's rows that have so many, and the words in code of each."""
     with open(GUIDE, encoding="utf-8") as page:
         for line in page:
             cells = [c.strip().replace("\\|", "|") for c in re.split(r"(?<!\\)\|", line)[1:-1]]
-            if len(cells) == 4:
-                yield cells, *(re.findall("`([^`]*)`", c) for c in cells[2:])
+            if len(cells) == width:
+                yield cells, [re.findall("`([^`]*)`", c) for c in cells]
 
 
 class Host(unittest.TestCase):
@@ -104,12 +180,68 @@ class Host(unittest.TestCase):
             self.refused(Refusal.NO_TOKEN, place, rc.check, FACTS, query)
         self.refused(Refusal.FACT_BYTE, 5, rc.chain, b"On C5\r C2\n", "On", "C5", "C2")
 
+    def test_patterns(self):
+        for pattern, picked in PATTERNS:
+            ran = rc.run(FACTS, picking(pattern))
+            self.assertEqual((ran.ending, ran.steps, ran.output.split()), (Ending.DONE, 1, picked.split()), pattern)
+        for query, page in [
+            (b'Q(x) := On(x,_) & @"^C1"(x); PRINT Q(x);', b"C10\n"),
+            (b'PRINT ["a"] @"^C"("C2"), ["b"] @"^B"("C2"), ["c"] @"."("Z"), ["d"] @"7$"(_), ["e"] @"8$"(_);', b"a\nd\n"),
+            (b'FOR v IN On(x,_) { IF @"^C"(v) { PRINT v, ENDL; } }', b"C10\nC5\n"),
+            (b'PRINT !@ /* a */ "C" // b\n (x);', b"B7\n"),
+            (b'Held("D.1"); Held("DX1"); PRINT @"D[.]1"(x);', b"D.1\n"),
+        ]:
+            ran = rc.run(FACTS, query)
+            self.assertEqual((ran.ending, ran.output), (Ending.DONE, page), query)
+        self.assertEqual(rc.check(FACTS, b'PRINT @"Z"(x);').universe, 4)
+
+    def test_refused_patterns(self):
+        for pattern, _, _ in NO_PATTERNS:
+            self.refused(Refusal.PATTERN, 7, rc.check, FACTS, picking(pattern))
+        for refusal, place, query in [
+            (Refusal.PATTERN, 8, b'PRINT @ "" (x);'),
+            (Refusal.PATTERN, 16, b'PRINT @"a"(x), @"("(x), @""(x);'),
+            (Refusal.PATTERN, 20, b'IF FALSE() { PRINT @"("(x); }'),
+            (Refusal.PATTERN, 7, b'PRINT @""(On);'),
+            (Refusal.NO_TOKEN, 7, picking(b"a" * 33)),
+            (Refusal.NO_PROGRAM, 13, b'PRINT @"("(x)'),
+            (Refusal.NO_PROGRAM, 26, b"FOR v IN Held(x) { PRINT @v(x); }"),
+            (Refusal.NO_PROGRAM, 12, b'PRINT @"("(x,y);'),
+            (Refusal.KIND, 11, b'PRINT @"a"(On);'),
+            (Refusal.FREE_ATTRIBUTES, 0, b'S() := @"^C1"(x);'),
+        ]:
+            self.refused(refusal, place, rc.check, FACTS, query)
+            self.refused(refusal, place, rc.run, FACTS, query)
+            self.assertIsNone(rc.element(FACTS, query, 0))
+
+    def test_faults_of_patterns(self):
+        for pattern, offset, reason in NO_PATTERNS:
+            self.assertEqual(first_fault(pattern), Fault(offset, reason), pattern)
+            told = rc.explain(Refused(Refusal.PATTERN, 7), FACTS, picking(pattern))
+            self.assertEqual((told.at.text, told.at.column, told.at.found), (Text.QUERY, 8, b'"' + pattern + b'"'))
+            self.says(told, "query:1:8: refused 18 at `\"", f"; here {reason}\n  {picking(pattern).decode()}\n  {' ' * (8 + offset)}^")
+        for pattern, _ in PATTERNS:
+            self.assertIsNone(first_fault(pattern), pattern)
+        long = b"PRINT On(x,_) &\n  @\"" + b"(" * 16 + b"a" + b")" * 15 + b'" (x);'
+        told = rc.explain(Refused(Refusal.PATTERN, 19), FACTS, long)
+        self.says(told, "query:2:4: refused 18 at `\"((((", f"; here a group that is not closed\n  {long[16:].decode()}\n      ^")
+
+    def test_faults_where_the_engine_refuses(self):
+        for pattern in (bytes(p) for n in range(5) for p in itertools.product(b"a-[]^:(|)*\\", repeat=n)):
+            try:
+                rc.check(FACTS, picking(pattern))
+                self.assertIsNone(first_fault(pattern), pattern)
+            except Refused as refused:
+                self.assertEqual((refused.refusal, refused.place), (Refusal.PATTERN, 7), pattern)
+                self.assertIsNotNone(first_fault(pattern), pattern)
+
     def test_refusals(self):
         self.refused(Refusal.STORE_SHORT, 77, rc.run, FACTS, QUERY, words=76)
         self.refused(Refusal.NO_PROGRAM, 13, rc.run, FACTS, "PRINT On(x,y)")
         self.refused(Refusal.FACT_BYTE, 6, rc.check, "Held C\u00e9\n", QUERY)
         self.refused(Refusal.FACT_BYTE, 7, rc.run, b"Held B7\r\r\n", QUERY)
         self.refused(Refusal.NO_TOKEN, 11, rc.run, FACTS, b"PRINT ENDL;\r\n")
+        self.refused(Refusal.PATTERN, 7, rc.run, FACTS, b'PRINT @"C{3}"(x);')
 
     def test_refusals_in_words(self):
         told = self.told(Refusal.FREE_ATTRIBUTES, 21, FACTS, b"P();\n\tPRINT On(x,y);\nHeld(x) := On(x,y);")
@@ -165,8 +297,10 @@ class Host(unittest.TestCase):
 
     def test_words_on_any_text_and_place(self):
         texts = [b"", b"\r", b"\n\r\n", b"a\r\nb\r", b'"\r\n"', b"\r\r\n"]
-        for row, text, place in [(r, t, p) for r in range(1, 14) for t in texts for p in range(len(t) + 2)]:
-            at = rc.explain(Refused(Refusal(row), place), text, text).at
+        for row, text, place in [(r, t, p) for r in [*range(1, 14), 18] for t in texts for p in range(len(t) + 2)]:
+            told = rc.explain(Refused(Refusal(row), place), text, text)
+            self.assertIsNone(told.fault, (row, text, place))
+            at = told.at
             self.assertEqual(at.found == b"", place >= len(text), (row, text, place))
             self.assertTrue(at.caret <= len(at.shown) and b"\n" not in at.shown, (row, text, place))
             self.assertNotIn(b"\r", at.shown[: at.caret], (row, text, place))
@@ -210,7 +344,7 @@ class Host(unittest.TestCase):
 
     def test_examples_of_the_guide(self):
         checked = 0
-        for cells, example, prints in guide_rows():
+        for cells, (_, _, example, prints) in guide_rows(4):
             if prints:
                 ran = rc.run(FACTS, example[0])
                 self.assertEqual((ran.ending, ran.output.decode().splitlines()), (Ending.DONE, prints), cells)
@@ -221,9 +355,18 @@ class Host(unittest.TestCase):
             else:
                 continue
             checked += 1
-        self.assertEqual(checked, 27)
+        self.assertEqual(checked, 42)
         self.refused(Refusal.TOO_MANY_RELATIONS, 0, rc.check, "".join(f"R{i}\n" for i in range(16)), "New();")
         self.refused(Refusal.TOO_MANY_ELEMENTS, 5, rc.check, "".join(f"Held {i}\n" for i in range(64)), 'Held("New");')
+
+    def test_patterns_of_the_guide(self):
+        rows = [(cells[1], wrong, right) for cells, (wrong, _, right) in guide_rows(3) if wrong]
+        self.assertEqual({why for why, _, _ in rows}, {why for _, _, why in NO_PATTERNS})
+        for why, wrong, right in rows:
+            for pattern in wrong:
+                self.assertEqual(self.told(Refusal.PATTERN, 7, FACTS, f"PRINT @{pattern}(x);").fault.reason, why, pattern)
+            for pattern in right:
+                rc.check(FACTS, f"PRINT @{pattern}(x);")
 
 
 if __name__ == "__main__":

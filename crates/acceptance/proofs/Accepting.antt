@@ -11,7 +11,7 @@ use Rattle.definition.specs.Token.{Token}
 use Rattle.definition.specs.Syntax.{Program}
 use Rattle.definition.specs.Answer.{Answer, ok, refused, number, place}
 use Rattle.definition.specs.Facts.{Facts, Relation, read-facts, use-elements}
-use Rattle.definition.specs.Names.{Kinds, in-program, use-names, fact-kinds, variables, program-rows, left-strings}
+use Rattle.definition.specs.Names.{Kinds, program-patterns, pattern-rows, in-program, use-names, fact-kinds, variables, program-rows, left-strings}
 use Rattle.definition.specs.Accept.{Accepted, accept}
 use Rattle.definition.specs.declared.Refusal.{Refusal}
 use Rattle.definition.specs.declared.Refusal.the-variants as Refusal
@@ -30,6 +30,10 @@ use Rattle.kinds.specs.declared.Named.{Named}
 use Rattle.kinds.specs.declared.Named.the-variants as Named
 use Rattle.kinds.specs.Resolved.{Parsed, Stands, Resolved}
 use Rattle.kinds.specs.Resolved as Resolved
+use Rattle.intern.specs.Entries.{Stand}
+use Rattle.malformed.specs.declared.Formed.{Formed}
+use Rattle.malformed.specs.declared.Formed.the-variants as Formed
+use Rattle.malformed.specs.Walk as Malformed
 use Rattle.rows.specs.declared.Ruled.{Ruled}
 use Rattle.rows.specs.declared.Ruled.the-variants as Ruled
 use Rattle.rows.specs.Statements.{meets, Setting}
@@ -44,7 +48,7 @@ use Rattle.universe.proofs.Filling.{filled}
 use Rattle.acceptance.specs.declared.Sizes.{Sizes}
 use Rattle.acceptance.specs.declared.Texts.{Texts}
 use Rattle.acceptance.specs.declared.Texts.the-variants as Texts
-use Rattle.acceptance.specs.Passes.{FactsIn, QueryIn, NamesIn}
+use Rattle.acceptance.specs.Passes.{FactsIn, QueryIn, FormedIn, NamesIn}
 use Rattle.acceptance.specs.Reading.{Reading, Sized, Accepts, accepts, refuses}
 
 -- The answer of the pass over names.
@@ -126,11 +130,27 @@ module _ (facts query : Text) (given places : List ℕ) (c : Counts) (f : FactsI
   query-wrong tokens words ids known relations places′ x y a e =
       refuses (AcceptLaws.refused-query document-01 facts query all facts-read (number y) (place y) (subst (IsRead query tokens words) a e))
 
-  module _ (tokens words : List ℕ) (ts : List Token) (p : Program) (q : QueryIn query tokens words ts p) where
+  -- the patterns' answer
+  module _ (tokens words : List ℕ) (ts : List Token) (p : Program) (q : QueryIn query tokens words ts p) (x : Formed)
+      (h : (ts : List Token) (p : Program) → Stand query tokens ts → length ts < 65536 → OwnProgram ts p → words ≡ flat-program p 0 → Malformed.meets x (pattern-rows (program-patterns p))) where
+    met : Malformed.meets x (pattern-rows (program-patterns p))
+    met = h ts p (q .parsed .stand) (q .parsed .few) (q .parsed .own) (q .parsed .flat)
+
+    pub patterns-wrong : (ids known relations places′ : List ℕ) (y : Refusal) → x ≡ Formed.Refused y → Accepts facts query tokens words ids known relations places′ (Texts.Refused y)
+    patterns-wrong ids known relations places′ y e =
+        refuses (AcceptLaws.refused-patterns document-01 facts query all facts-read p (q .read) (number y) (place y) (subst (λ (v : Formed). Malformed.meets v (pattern-rows (program-patterns p))) e met))
+
+    pub patterns-right : x ≡ Formed.Fine → FormedIn query tokens words ts p
+    patterns-right e = record { query-in = q; formed = subst (λ (v : Formed). Malformed.meets v (pattern-rows (program-patterns p))) e met }
+
+  module _ (tokens words : List ℕ) (ts : List Token) (p : Program) (formed : FormedIn query tokens words ts p) where
+    abbrev pub q : QueryIn query tokens words ts p
+    q = formed .query-in
+
     names-refused : (x : Refusal) → use-names document-01 (in-program p) (fact-kinds (relations-of facts query (take (c .relations) given))) ≡ refused (number x) (place x)
         → accept document-01 facts query ≡ refused (number x) (place x)
     names-refused x e =
-        AcceptLaws.refused-names document-01 facts query all facts-read p (q .read) (number x) (place x)
+        AcceptLaws.refused-names document-01 facts query all facts-read p (q .read) (formed .formed) (number x) (place x)
         (ap (λ (rs : List Relation). use-names document-01 (in-program p) (fact-kinds rs)) (sym relations-read) ∙ e)
 
     pub names-wrong : (ids known relations places′ : List ℕ) (x : Named) (y : Refusal) → x ≡ Named.Refused y
@@ -177,7 +197,7 @@ module _ (facts query : Text) (given places : List ℕ) (c : Counts) (f : FactsI
           }
 
       rows-refused : (x : Refusal) → program-rows (variables k) p ≡ refused (number x) (place x) → accept document-01 facts query ≡ refused (number x) (place x)
-      rows-refused x e = AcceptLaws.refused-rows document-01 facts query all facts-read p (q .read) k names-known (number x) (place x) e
+      rows-refused x e = AcceptLaws.refused-rows document-01 facts query all facts-read p (q .read) (formed .formed) k names-known (number x) (place x) e
 
       abbrev Ruling : Ruled → Type 0
       Ruling x = (S : Setting words ids known) (p : Program) → OwnProgram (S .ts) p → words ≡ flat-program p 0 → meets x (program-rows (variables (S .kinds)) p)
@@ -191,7 +211,7 @@ module _ (facts query : Text) (given places : List ℕ) (c : Counts) (f : FactsI
       module _ (right : program-rows (variables k) p ≡ ok tt) where
         pub strings-refused : (at : ℕ) → use-elements document-01 (left-strings p) (texts-of facts query (take (c .elements) places)) ≡ refused 7 at → accept document-01 facts query ≡ refused 7 at
         strings-refused at e =
-            AcceptLaws.refused-universe document-01 facts query all facts-read p (q .read) k names-known right 7 at
+            AcceptLaws.refused-universe document-01 facts query all facts-read p (q .read) (formed .formed) k names-known right 7 at
             (ap (λ (us : List Text). use-elements document-01 (left-strings p) us) (sym universe-read) ∙ e)
 
         module _ (places′ : List ℕ) (u : ℕ) (s : WithStrings facts query p tokens words places places′ (c .elements) u) where
@@ -200,7 +220,7 @@ module _ (facts query : Text) (given places : List ℕ) (c : Counts) (f : FactsI
 
           is-accepted : accept document-01 facts query ≡ ok given-by
           is-accepted =
-              AcceptLaws.all-accepted document-01 facts query all facts-read p (q .read) k names-known right (texts-of facts query (take u places′))
+              AcceptLaws.all-accepted document-01 facts query all facts-read p (q .read) (formed .formed) k names-known right (texts-of facts query (take u places′))
               (ap (λ (us : List Text). use-elements document-01 (left-strings p) us) (sym universe-read) ∙ s .universe)
 
           all-in : u ≤ length places′

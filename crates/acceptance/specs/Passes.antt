@@ -8,7 +8,7 @@ use Rattle.definition.specs.Limits.{document-01}
 use Rattle.definition.specs.Token.{Token}
 use Rattle.definition.specs.Syntax.{Program}
 use Rattle.definition.specs.Answer.{ok}
-use Rattle.definition.specs.Names.{Kinds, in-program, use-names, fact-kinds}
+use Rattle.definition.specs.Names.{Kinds, program-patterns, pattern-rows, in-program, use-names, fact-kinds}
 use Rattle.definition.specs.Accept.{read-query}
 use Rattle.lexer.specs.Tokens.{Inside}
 use Rattle.facts.specs.declared.Counts.{Counts}
@@ -32,6 +32,11 @@ pub record QueryIn (query : Text) (tokens words : List ℕ) (ts : List Token) (p
   pub inside : Inside query tokens
   pub few-tokens : length tokens ≤ 2048
   pub few-words : length words ≤ 2048
+
+-- and its patterns are well formed
+pub record FormedIn (query : Text) (tokens words : List ℕ) (ts : List Token) (p : Program) : Type 0 where
+  pub query-in : QueryIn query tokens words ts p
+  pub formed : pattern-rows (program-patterns p) ≡ ok tt
 
 -- its names have their kinds, where the facts gave the words `given`; the first r words are the relations
 pub record NamesIn (facts query : Text) (tokens ids known given relations : List ℕ) (r : ℕ) (p : Program) (k : Kinds) : Type 0 where

@@ -1,4 +1,4 @@
-// Document 01's numbers and places for refusals.
+// The documents' numbers and places for refusals.
 ghost use mathlib.Core.Path.{_≡_};
 ghost use Rattle.definition.specs.Answer as Answer;
 use definition::Refusal;
@@ -25,6 +25,7 @@ pub fn number(q: Refusal) -> usize
         Refusal::NotInFacts => 15,
         Refusal::BufferShort => 16,
         Refusal::NoChain => 17,
+        Refusal::Pattern(_) => 18,
     }
 }
 
@@ -50,5 +51,6 @@ pub fn place(q: Refusal) -> usize
         Refusal::NotInFacts => 0,
         Refusal::BufferShort => 0,
         Refusal::NoChain => 0,
+        Refusal::Pattern(p) => p,
     }
 }

@@ -2,7 +2,7 @@
 use Prim.Native.Nat.{ℕ, suc, _+_, _-_, _%_, _<_, _≤_}
 use mathlib.Core.Path.{_≡_, refl, sym, ap, subst, _∙_}
 use mathlib.Core.Bool.{Bool, true, false, cond}
-use mathlib.Core.List.{List, map}
+use mathlib.Core.List.{List, [], map}
 use native.Mathlib.Omega.{arith}
 use borrow.Author.Tests.{ne-eqb, eq-eqb, ltb-true, ltb-false}
 use lib.Dec.{ltb}
@@ -10,6 +10,8 @@ use lib.ListN.{length, getD, take, drop}
 use Rattle.definition.specs.Text.{Text, member}
 use Rattle.definition.specs.Token.{Token}
 use Rattle.definition.specs.Names.{attribute, relation, is-variable, variables}
+use Rattle.definition.specs.Tables.{bit}
+use Rattle.definition.specs.Pattern.{matches}
 use Rattle.definition.specs.Accept.{elements}
 use Rattle.definition.specs.Meaning.{numbers}
 use Rattle.definition.proofs.BoolLaws.{is-true, contradiction}
@@ -33,14 +35,15 @@ use Rattle.free.proofs.Slotted.{slot}
 use Rattle.free.proofs.Trees.{after-other, at-start}
 use Rattle.rows.specs.Statements.{Setting}
 use Rattle.rows.proofs.Coding as Coding
-use Rattle.lowering.specs.Lowering.{at, lower-at, Filled}
-use Rattle.lowering.specs.Agreement.{Element, found, missing, Agrees, Spelled}
+use Rattle.lowering.specs.Lowering.{at, halves, lower-at, Filled}
+use Rattle.lowering.specs.Agreement.{Element, found, missing, Agrees, Spelled, Halved}
 use Rattle.lowering.proofs.FreeWords.{free-at}
 use Rattle.coding.specs.Pass.{token-part, string-code, name-code, code-of, Made}
 use Rattle.coded.proofs.Bytes.{byte-of, byte-scope, byte-name, name-range, scope-range}
 use Rattle.coded.proofs.Kept.{named-by, by-true, kept, kept-length, was-name, was-string}
 use Rattle.coded.proofs.Codes.{attribute-number, loop-number, relation-number, place-known, part-is, index-found, index-none}
-use Rattle.coded.proofs.Given.{Case, depths-before, Place}
+use Rattle.coded.proofs.Halves.{half-bit}
+use Rattle.coded.proofs.Given.{Case, depths-before, halves-of, Place}
 
 module _ (C : Case) where
   -- the tokens of names
@@ -117,6 +120,10 @@ module _ (C : Case) where
             let h = ltb-true place (length (C .places)) e in
             found (number-is ∙ index-found (C .facts) (C .query) part (C .places) ordered h) (omega (arith, h, as-many))
         go false e = missing (number-is ∙ index-none (C .facts) (C .query) part (C .places) (ltb-false place (length (C .places)) e)) refl
+
+    half-is : (a i : ℕ) → i < 32 → a + i < elements (C .w) → bit (halves-of C (number t) a % 4294967296) i ≡ matches (t .text) (getD (C .w .universe) (a + i) [])
+    unfolding halves
+    half-is a i l h = rw (string-text, C .universe) (half-bit (t .text) (C .w .universe) a i l h)
 
     string-is : (f : Found) (depths : List ℕ)
         → code-of (C .facts) (C .query) (C .places) (C .tokens) (C .ids) (C .known) f depths (number t) ≡ string-code (C .facts) (C .query) (C .places) (C .tokens) (C .ids) (C .known) (number t)
@@ -274,8 +281,11 @@ module _ (C : Case) where
       near = λ t o. C .near (number t) (string-here t (was-string takes-token (C .ts) t o .0));
     }
 
+    pub halved : Halved (C .w) own-tokens (halves-of C)
+    halved = record { set = λ t o a i l h. half-is t (was-string takes-token (C .ts) t o .0) a i l h }
+
     -- the lowered words
-    pub filled : Filled (lower-at (at (C .words)) (at (M .codes)) (at (C .tokens)) (at (M .fr)) (elements (C .w)) s) s (suc k) (C .low) (C .low)
+    pub filled : Filled (lower-at (at (C .words)) (at (M .codes)) (at (C .tokens)) (at (M .fr)) (halves-of C) (elements (C .w)) s) s (suc k) (C .low) (C .low)
     filled = record {
       same-length = refl;
       inside = λ i l h. M .lowered i l (omega (arith, h));

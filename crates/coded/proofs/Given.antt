@@ -18,7 +18,7 @@ use Rattle.parts.specs.Packed.{text-of}
 use Rattle.intern.specs.Entries.{start-of, Stand}
 use Rattle.kinds.specs.Resolved.{Stands}
 use Rattle.slots.proofs.Attributes.{Coded}
-use Rattle.lowering.specs.Lowering.{at, closures-before}
+use Rattle.lowering.specs.Lowering.{at, Halves, halves, closures-before}
 use Rattle.code.specs.Statements.{depth-in}
 use Rattle.coding.specs.Pass.{Depths, depths-at, names-between, Made, Passed}
 
@@ -60,6 +60,10 @@ pub record Case : Type 0 where
 -- before the word at a place
 abbrev pub depths-before : Case → ℕ → Depths
 depths-before C n = depths-at (C .ids) (C .words) (C .first) n
+
+-- the elements that match the pattern of a token
+abbrev pub halves-of : Case → Halves
+halves-of C = halves (C .facts) (C .query) (C .places) (at (C .tokens))
 
 -- the statement whose words stand from s up to its own at k: its attribute names, its open loop variables and their depths
 pub record Place (C : Case) (scope : List Text) (s k : ℕ) (names : List Text) : Type 0 where

@@ -3,6 +3,7 @@ pub mod Bytes
 pub mod Kept
 pub mod Codes
 pub mod Given
+pub mod Halves
 pub mod Agreeing
 pub mod Scoping
 pub mod OneCode

@@ -24,7 +24,7 @@ use Rattle.machine.specs.Instructions.{ASSIGN, PRINT, TEST, AGAIN, RANGE, NEXT,
 use Rattle.machine.proofs.Decoding.{is-assign, is-print, is-test, is-again, is-range, is-next, is-jump}
 use Rattle.code.specs.Statements.{Whole}
 use Rattle.coding.specs.Pass.{is-named}
-use Rattle.coded.proofs.Given.{Case, depths-before, Place}
+use Rattle.coded.proofs.Given.{Case, depths-before, halves-of, Place}
 use Rattle.coded.proofs.Agreeing.{name-here, loop-code, code-at, filled}
 use Rattle.coded.proofs.Scoping.{word-takes}
 use Rattle.coded.proofs.Quiet.{depths-other}
@@ -36,7 +36,7 @@ unfolding is-named
 named-loops = (refl, refl)
 
 module _ (C : Case) (scope : List Text) (s k : ℕ) (names : List Text) (P : Place C scope s k names) where
-  abbrev F : Filled (lower-at (at (C .words)) (at (P .made .codes)) (at (C .tokens)) (at (P .made .fr)) (elements (C .w)) s) s (suc k) (C .low) (C .low)
+  abbrev F : Filled (lower-at (at (C .words)) (at (P .made .codes)) (at (C .tokens)) (at (P .made .fr)) (halves-of C) (elements (C .w)) s) s (suc k) (C .low) (C .low)
   F = filled C scope s k names P
 
   here : k < length (C .low)
@@ -44,10 +44,10 @@ module _ (C : Case) (scope : List Text) (s k : ℕ) (names : List Text) (P : Pla
 
   module _ (p q r : ℕ) (hp : p < 65536) (hq : q < 65536) where
     kind-is : (K : ℕ) → K < 256 → (K ≡ 11 → ⊥) → getD (C .words) k 0 ≡ word K p q r → kind-of (getD (C .low) k 0) ≡ K
-    kind-is K hK n e = kind-at (C .words) (P .made .codes) (C .tokens) (P .made .fr) (elements (C .w)) s (suc k) (C .low) (C .low) F k K p q r hK hp hq (P .order) (omega arith) e n
+    kind-is K hK n e = kind-at (C .words) (P .made .codes) (C .tokens) (P .made .fr) (halves-of C) (elements (C .w)) s (suc k) (C .low) (C .low) F k K p q r hK hp hq (P .order) (omega arith) e n
 
     target-is : (K : ℕ) → K < 256 → 34 ≤ K → K < 38 → getD (C .words) k 0 ≡ word K p q r → q-of (getD (C .low) k 0) ≡ q
-    target-is K hK l h e = target-q (C .words) (P .made .codes) (C .tokens) (P .made .fr) (elements (C .w)) s (suc k) (C .low) (C .low) F k K p q r hK hp hq (P .order) (omega arith) e l h
+    target-is K hK l h e = target-q (C .words) (P .made .codes) (C .tokens) (P .made .fr) (halves-of C) (elements (C .w)) s (suc k) (C .low) (C .low) F k K p q r hK hp hq (P .order) (omega arith) e l h
 
     pub assign-instr : getD (C .words) k 0 ≡ word Fields.ASSIGN p q r → instr (C .low) k ≡ ASSIGN
     assign-instr e = is-assign (C .low) k here (kind-is Fields.ASSIGN (omega arith) (λ z. omega arith) e)
@@ -75,7 +75,7 @@ module _ (C : Case) (scope : List Text) (s k : ℕ) (names : List Text) (P : Pla
     depth-is K hK l h n e =
         let a = code-at C scope s k names P (number t) (name-here C t o) (word-takes C scope s k names P k K (number t) q r (P .order) (omega arith) hK n ht e) in
         let b = loop-code C t o (P .made .found) (depths-before C (suc k) .depths) loop in
-        let c = loop-p (C .words) (P .made .codes) (C .tokens) (P .made .fr) (elements (C .w)) s (suc k) (C .low) (C .low) F k K (number t) q r hK ht hq (P .order) (omega arith) e l h in
+        let c = loop-p (C .words) (P .made .codes) (C .tokens) (P .made .fr) (halves-of C) (elements (C .w)) s (suc k) (C .low) (C .low) F k K (number t) q r hK ht hq (P .order) (omega arith) e l h in
         let z : getD (P .made .codes) (number t) 0 ≡ 72 + d = a ∙ b ∙ ap (λ (j : ℕ). 72 + j) depth in
         let y : (72 + d - 72) % 65536 ≡ d = omega arith in
         let x : p-of (getD (C .low) k 0) ≡ d = c ∙ rw z y in
@@ -86,13 +86,13 @@ module _ (C : Case) (scope : List Text) (s k : ℕ) (names : List Text) (P : Pla
     range-instr e =
         is-range (C .low) k here (kind-is (number t) q r ht hq Fields.RANGE (omega arith) (λ z. omega arith) e)
         ∙ ap₂ RANGE (depth-is Fields.RANGE (omega arith) (omega arith) (omega arith) (named-loops .0) e)
-        (range-q (C .words) (P .made .codes) (C .tokens) (P .made .fr) (elements (C .w)) s (suc k) (C .low) (C .low) F k Fields.RANGE (number t) q r (omega arith) ht hq (P .order) (omega arith) e refl)
+        (range-q (C .words) (P .made .codes) (C .tokens) (P .made .fr) (halves-of C) (elements (C .w)) s (suc k) (C .low) (C .low) F k Fields.RANGE (number t) q r (omega arith) ht hq (P .order) (omega arith) e refl)
 
     pub next-instr : getD (C .words) k 0 ≡ word Fields.NEXT (number t) q r → instr (C .low) k ≡ NEXT d q
     next-instr e =
         is-next (C .low) k here (kind-is (number t) q r ht hq Fields.NEXT (omega arith) (λ z. omega arith) e)
         ∙ ap₂ NEXT (depth-is Fields.NEXT (omega arith) (omega arith) (omega arith) (named-loops .1) e)
-        (next-q (C .words) (P .made .codes) (C .tokens) (P .made .fr) (elements (C .w)) s (suc k) (C .low) (C .low) F k Fields.NEXT (number t) q r (omega arith) ht hq (P .order) (omega arith) e refl)
+        (next-q (C .words) (P .made .codes) (C .tokens) (P .made .fr) (halves-of C) (elements (C .w)) s (suc k) (C .low) (C .low) F k Fields.NEXT (number t) q r (omega arith) ht hq (P .order) (omega arith) e refl)
 
 -- the variables of the open FORs are loop variables
 abbrev pub Loops : Case → List Text → Type 0

@@ -29,7 +29,7 @@ use Rattle.free.specs.Words.{is-leaf}
 use Rattle.free.proofs.Slotted.{Covered, covered-split}
 use Rattle.meaning.specs.Lowered.{Lowered}
 use Rattle.lowering.specs.Lowering.{at, term-byte, operands-at, all-stand, kind-field, closures-before, lower-at, Filled}
-use Rattle.lowering.specs.Agreement.{Scoped, Agrees}
+use Rattle.lowering.specs.Agreement.{Scoped, Agrees, Halved}
 use Rattle.lowering.proofs.Words.{term-small}
 use Rattle.lowering.proofs.Filling.{none-before}
 use Rattle.lowering.proofs.Terms.{slot-byte}
@@ -41,8 +41,8 @@ use Rattle.prints.specs.Lowered.{PrintLowered}
 use Rattle.actions.specs.Doing.{columns-of}
 use Rattle.code.specs.Statements.{TestCode, RangeCode, AssignCode, PrintCode}
 use Rattle.coded.proofs.Bytes.{named}
-use Rattle.coded.proofs.Given.{Case, Place}
-use Rattle.coded.proofs.Agreeing.{own-tokens, In, β, Clear, short, apart, clear-first, agrees, spelled, filled}
+use Rattle.coded.proofs.Given.{Case, halves-of, Place}
+use Rattle.coded.proofs.Agreeing.{own-tokens, In, β, Clear, short, apart, clear-first, agrees, spelled, halved, filled}
 use Rattle.coded.proofs.Scoping.{Closed, Placed, scoped, scoped-lefts, scoped-items, known-relation}
 
 -- lists of no and of one name
@@ -94,7 +94,10 @@ module _ (C : Case) (scope : List Text) (s k : ℕ) (names : List Text) (P : Pla
   abbrev G : Agrees (C .w) ts′ scope I b (Clear C scope s k names P) (C .words) (P .made .codes) (P .made .fr) s (suc k)
   G = agrees C scope s k names P
 
-  abbrev F : Filled (lower-at (at (C .words)) (at (P .made .codes)) (at (C .tokens)) (at (P .made .fr)) (elements (C .w)) s) s (suc k) (C .low) (C .low)
+  abbrev N : Halved (C .w) ts′ (halves-of C)
+  N = halved C scope s k names P
+
+  abbrev F : Filled (lower-at (at (C .words)) (at (P .made .codes)) (at (C .tokens)) (at (P .made .fr)) (halves-of C) (elements (C .w)) s) s (suc k) (C .low) (C .low)
   F = filled C scope s k names P
 
   abbrev Cl : ℕ → Type 0
@@ -106,7 +109,7 @@ module _ (C : Case) (scope : List Text) (s k : ℕ) (names : List Text) (P : Pla
   -- an expression of the statement
   lowered : (e : Expression) (n : ℕ) → 0 ≡ before n → Scoped (C .w) ts′ scope I e → s ≤ n → n + size e ≤ suc k → Cl n → Has (C .words) n (flat e n) → Lowered (C .w) b scope (C .low) e n 0
   lowered e n c o l h cl x =
-      lowered-expression (C .w) ts′ scope I b Cl (C .words) (P .made .codes) (C .tokens) (P .made .fr) s (suc k) G (C .low) (C .low) F e n 0 c o l h cl x
+      lowered-expression (C .w) ts′ scope I b Cl (C .words) (P .made .codes) (C .tokens) (P .made .fr) (halves-of C) s (suc k) G N (C .low) (C .low) F e n 0 c o l h cl x
 
   none-first : 0 ≡ before s
   none-first = sym (none-before (at (C .words)) s s (omega arith))
@@ -116,7 +119,7 @@ module _ (C : Case) (scope : List Text) (s k : ℕ) (names : List Text) (P : Pla
   unfolding kind-field
   no-closure i l h n z =
       go (eqb (kind-of (getD (C .words) i 0)) TRUTH) (all-stand (at (C .words)) (at (P .made .codes)) (elements (C .w)) (q-of (getD (C .words) i 0)) (p-of (getD (C .words) i 0)))
-      (sym (kind-field-at (C .words) (P .made .codes) (C .tokens) (P .made .fr) (elements (C .w)) s (suc k) (C .low) (C .low) F i l (omega arith)) ∙ z)
+      (sym (kind-field-at (C .words) (P .made .codes) (C .tokens) (P .made .fr) (halves-of C) (elements (C .w)) s (suc k) (C .low) (C .low) F i l (omega arith)) ∙ z)
     where
       go : (p q : Bool) → cond p (cond q TRUTH FALSITY) (kind-of (getD (C .words) i 0)) ≡ CLOSURE → ⊥
       go true true e = omega arith
@@ -140,11 +143,11 @@ module _ (C : Case) (scope : List Text) (s k : ℕ) (names : List Text) (P : Pla
   after-lefts [] n f l h cl z x = let e : n + 0 ≡ n = omega arith in rw e (cl, z)
   after-lefts (name t ∷ ps) n f l h cl z x =
       let e : n + suc (length ps) ≡ n + 1 + length ps = omega arith in
-      let q = name-before (C .w) ts′ scope I b Cl (C .words) (P .made .codes) (C .tokens) (P .made .fr) s (suc k) G (C .low) (C .low) F n ATTRIBUTE (number t) 0 0 l (x .0) (omega arith) (λ y. omega arith) in
+      let q = name-before (C .w) ts′ scope I b Cl (C .words) (P .made .codes) (C .tokens) (P .made .fr) (halves-of C) s (suc k) G N (C .low) (C .low) F n ATTRIBUTE (number t) 0 0 l (x .0) (omega arith) (λ y. omega arith) in
       rw e (after-lefts ps (n + 1) (f .1) (omega arith) (omega arith) (G .others n ATTRIBUTE (number t) 0 0 l (omega arith) (omega arith) (leaf-kinds .1) (x .0)) (z ∙ sym q) (x .1))
   after-lefts (string t ∷ ps) n f l h cl z x =
       let e : n + suc (length ps) ≡ n + 1 + length ps = omega arith in
-      let q = name-before (C .w) ts′ scope I b Cl (C .words) (P .made .codes) (C .tokens) (P .made .fr) s (suc k) G (C .low) (C .low) F n (STRING + ATTRIBUTE) (number t) 0 0 l (x .0) (omega arith) (λ y. omega arith) in
+      let q = name-before (C .w) ts′ scope I b Cl (C .words) (P .made .codes) (C .tokens) (P .made .fr) (halves-of C) s (suc k) G N (C .low) (C .low) F n (STRING + ATTRIBUTE) (number t) 0 0 l (x .0) (omega arith) (λ y. omega arith) in
       rw e (after-lefts ps (n + 1) (f .1) (omega arith) (omega arith) (G .others n (STRING + ATTRIBUTE) (number t) 0 0 l (omega arith) (omega arith) (leaf-kinds .2) (x .0)) (z ∙ sym q) (x .1))
   after-lefts (anything ∷ ps) n f l h cl z x = absurd (f .0)
 
@@ -168,7 +171,7 @@ module _ (C : Case) (scope : List Text) (s k : ℕ) (names : List Text) (P : Pla
       → t < 65536 → l < 65536 → getD (C .words) s 0 ≡ word BIND t 0 0 → Has (C .words) (s + 1) (flat e (s + 1)) → getD (C .words) k 0 ≡ word RANGE t l i → RangeCode (C .w) (C .query) (C .low) scope s k e
   range-code i l t e S o c cl f ek ht hl y x own =
       let S′ = scoped C scope s k names P e (s + 1) S o c cl (omega arith) (omega arith) x in
-      let q = name-before (C .w) ts′ scope I b Cl (C .words) (P .made .codes) (C .tokens) (P .made .fr) s (suc k) G (C .low) (C .low) F s BIND t 0 0 (omega arith) y (omega arith) (λ z. omega arith) in
+      let q = name-before (C .w) ts′ scope I b Cl (C .words) (P .made .codes) (C .tokens) (P .made .fr) (halves-of C) s (suc k) G N (C .low) (C .low) F s BIND t 0 0 (omega arith) y (omega arith) (λ z. omega arith) in
       let clear = G .others s BIND t 0 0 (omega arith) (omega arith) (omega arith) (leaf-kinds .3) y in
       let A = G .frees e (s + 1) S′ (omega arith) (omega arith) clear x in
       let (a, ea) = one-name (free v e) f in
@@ -176,7 +179,7 @@ module _ (C : Case) (scope : List Text) (s k : ℕ) (names : List Text) (P : Pla
       let g = G .slots a m in
       let j : k - 1 ≡ s + 1 + size e - 1 = omega arith in
       let val : getD (P .made .fr) (k - 1) 0 ≡ b a - 63 + 8 * 0 = rw j (A .value ∙ one-digit (free v e) a ea) in
-      let cc′ : c-of (getD (C .low) k 0) ≡ getD (P .made .fr) (k - 1) 0 % 8 - 1 = range-c (C .words) (P .made .codes) (C .tokens) (P .made .fr) (elements (C .w)) s (suc k) (C .low) (C .low) F k RANGE t l i (omega arith) ht hl (omega arith) (omega arith) own refl in
+      let cc′ : c-of (getD (C .low) k 0) ≡ getD (P .made .fr) (k - 1) 0 % 8 - 1 = range-c (C .words) (P .made .codes) (C .tokens) (P .made .fr) (halves-of C) (elements (C .w)) s (suc k) (C .low) (C .low) F k RANGE t l i (omega arith) ht hl (omega arith) (omega arith) own refl in
       record {
         β = b;
         named = named scope names (P .shallow) (short C scope s k names P);
@@ -201,10 +204,10 @@ module _ (C : Case) (scope : List Text) (s k : ℕ) (names : List Text) (P : Pla
   columns-are i n hn own =
       let small : (j : ℕ) → byte j < 256 = λ j. term-small (at (C .words)) (at (P .made .codes)) (at (C .tokens)) (at (P .made .fr)) 0 (getD (C .words) j 0) in
       let hs : s < 65536 = omega (arith, P .order, P .inside, C .small) in
-      let ea = assign-a (C .words) (P .made .codes) (C .tokens) (P .made .fr) (elements (C .w)) s (suc k) (C .low) (C .low) F k ASSIGN s n i (omega arith) hs hn (P .order) (omega arith) own refl in
-      let eb = assign-b (C .words) (P .made .codes) (C .tokens) (P .made .fr) (elements (C .w)) s (suc k) (C .low) (C .low) F k ASSIGN s n i (omega arith) hs hn (P .order) (omega arith) own refl in
-      let ec = assign-c (C .words) (P .made .codes) (C .tokens) (P .made .fr) (elements (C .w)) s (suc k) (C .low) (C .low) F k ASSIGN s n i (omega arith) hs hn (P .order) (omega arith) own refl in
-      let ed = assign-d (C .words) (P .made .codes) (C .tokens) (P .made .fr) (elements (C .w)) s (suc k) (C .low) (C .low) F k ASSIGN s n i (omega arith) hs hn (P .order) (omega arith) own refl in
+      let ea = assign-a (C .words) (P .made .codes) (C .tokens) (P .made .fr) (halves-of C) (elements (C .w)) s (suc k) (C .low) (C .low) F k ASSIGN s n i (omega arith) hs hn (P .order) (omega arith) own refl in
+      let eb = assign-b (C .words) (P .made .codes) (C .tokens) (P .made .fr) (halves-of C) (elements (C .w)) s (suc k) (C .low) (C .low) F k ASSIGN s n i (omega arith) hs hn (P .order) (omega arith) own refl in
+      let ec = assign-c (C .words) (P .made .codes) (C .tokens) (P .made .fr) (halves-of C) (elements (C .w)) s (suc k) (C .low) (C .low) F k ASSIGN s n i (omega arith) hs hn (P .order) (omega arith) own refl in
+      let ed = assign-d (C .words) (P .made .codes) (C .tokens) (P .made .fr) (halves-of C) (elements (C .w)) s (suc k) (C .low) (C .low) F k ASSIGN s n i (omega arith) hs hn (P .order) (omega arith) own refl in
       let A = byte (s + 1) in
       let B = byte (s + 1 + 1) in
       let D = byte (s + 1 + 2) in
@@ -225,7 +228,7 @@ module _ (C : Case) (scope : List Text) (s k : ℕ) (names : List Text) (P : Pla
       let hs : s < 65536 = omega (arith, P .order, P .inside, C .small) in
       let hn : length ps < 65536 = omega (arith, K .short) in
       let hr : number r < 65536 = omega (arith, or .inside, C .few) in
-      let q = name-before (C .w) ts′ scope I b Cl (C .words) (P .made .codes) (C .tokens) (P .made .fr) s (suc k) G (C .low) (C .low) F s RELATION-NAME (number r) (length ps) 0 (omega arith) y (omega arith) (λ z. omega arith) in
+      let q = name-before (C .w) ts′ scope I b Cl (C .words) (P .made .codes) (C .tokens) (P .made .fr) (halves-of C) s (suc k) G N (C .low) (C .low) F s RELATION-NAME (number r) (length ps) 0 (omega arith) y (omega arith) (λ z. omega arith) in
       let clear = G .others s RELATION-NAME (number r) (length ps) 0 (omega arith) (omega arith) (omega arith) (leaf-kinds .0) y in
       let after = after-lefts ps (s + 1) f (omega arith) (omega arith) clear (none-first ∙ sym q) yl in
       let pr : p-of (getD (C .words) s 0) ≡ number r = rw y (p-word RELATION-NAME (number r) (length ps) 0 (omega arith) hr) in
@@ -237,12 +240,12 @@ module _ (C : Case) (scope : List Text) (s k : ℕ) (names : List Text) (P : Pla
         own = ek;
         first = go;
         words = lowered e (s + 1 + length ps) (after .1) S′ (omega arith) (omega arith) (after .0) x;
-        number = assign-p (C .words) (P .made .codes) (C .tokens) (P .made .fr) (elements (C .w)) s (suc k) (C .low) (C .low) F k ASSIGN s (length ps) i (omega arith) hs hn (P .order) (omega arith) own refl
+        number = assign-p (C .words) (P .made .codes) (C .tokens) (P .made .fr) (halves-of C) (elements (C .w)) s (suc k) (C .low) (C .low) F k ASSIGN s (length ps) i (omega arith) hs hn (P .order) (omega arith) own refl
             ∙ rw (pr, G .relations r (K .own) (K .known)) m;
         known = K .known;
         arity = K .arity;
         short = K .short;
-        count = assign-n (C .words) (P .made .codes) (C .tokens) (P .made .fr) (elements (C .w)) s (suc k) (C .low) (C .low) F k ASSIGN s (length ps) i (omega arith) hs hn (P .order) (omega arith) own refl ∙ n;
+        count = assign-n (C .words) (P .made .codes) (C .tokens) (P .made .fr) (halves-of C) (elements (C .w)) s (suc k) (C .low) (C .low) F k ASSIGN s (length ps) i (omega arith) hs hn (P .order) (omega arith) own refl ∙ n;
         In = I;
         slots = λ z h. (G .slots z h .0, omega (arith, G .slots z h .1));
         columns = rw (columns-are i (length ps) hn own) (left-coded (C .w) ts′ scope I b Cl (C .words) (P .made .codes) (P .made .fr) s (suc k) G ps (s + 1) (K .short) lefts yl);
@@ -262,6 +265,6 @@ module _ (C : Case) (scope : List Text) (s k : ℕ) (names : List Text) (P : Pla
         β = b;
         named = named scope names (P .shallow) (short C scope s k names P);
         own = ek;
-        first = print-p (C .words) (P .made .codes) (C .tokens) (P .made .fr) (elements (C .w)) s (suc k) (C .low) (C .low) F k PRINT s 0 i (omega arith) hs (omega arith) (P .order) (omega arith) own refl;
-        words = subst (λ (j : ℕ). PrintLowered (C .w) b scope (C .low) (C .query) is j) (sym ek) (lowered-print (C .w) ts′ scope I b Cl (C .words) (P .made .codes) (C .tokens) (P .made .fr) s (suc k) G (C .query) (spelled C scope s k names P) (C .low) (C .low) F i is hi S′ (omega arith) (clear-first C scope s k names P) x (rw (← ek) own));
+        first = print-p (C .words) (P .made .codes) (C .tokens) (P .made .fr) (halves-of C) (elements (C .w)) s (suc k) (C .low) (C .low) F k PRINT s 0 i (omega arith) hs (omega arith) (P .order) (omega arith) own refl;
+        words = subst (λ (j : ℕ). PrintLowered (C .w) b scope (C .low) (C .query) is j) (sym ek) (lowered-print (C .w) ts′ scope I b Cl (C .words) (P .made .codes) (C .tokens) (P .made .fr) (halves-of C) s (suc k) G N (C .query) (spelled C scope s k names P) (C .low) (C .low) F i is hi S′ (omega arith) (clear-first C scope s k names P) x (rw (← ek) own));
       }

@@ -13,7 +13,7 @@ use Rattle.words.specs.Standing.{Has}
 use Rattle.words.specs.Parts.{ends}
 use Rattle.words.proofs.EachKind.{each-at}
 use Rattle.words.proofs.StatementParts.{quiet, Quiet}
-use Rattle.lowering.specs.Lowering.{at, all-stand, kind-field, lower-at, Filled}
+use Rattle.lowering.specs.Lowering.{at, Halves, all-stand, kind-field, lower-at, Filled}
 use Rattle.lowering.proofs.Places.{kind-field-at}
 use Rattle.actions.specs.Parts.{is-statement, start}
 use Rattle.coding.specs.Pass.{Depths, depths-after, depths-at}
@@ -60,11 +60,11 @@ depths-quiet ids words d s (suc m) q =
     rw z (depths-other ids words d (s + m) a b ∙ depths-quiet ids words d s m (λ i l h. q i l (omega arith)))
 
 -- lowered, they are still no statement's own
-pub quiet-low : (words codes tokens fr : List ℕ) (u lo hi : ℕ) (low : List ℕ) → Filled (lower-at (at words) (at codes) (at tokens) (at fr) u lo) lo hi low low → (i : ℕ) → lo ≤ i → i < hi
+pub quiet-low : (words codes tokens fr : List ℕ) (H : Halves) (u lo hi : ℕ) (low : List ℕ) → Filled (lower-at (at words) (at codes) (at tokens) (at fr) H u lo) lo hi low low → (i : ℕ) → lo ≤ i → i < hi
     → is-statement (kind-of (getD words i 0)) ≡ false → is-statement (kind-of (getD low i 0)) ≡ false
 unfolding kind-field is-statement
-quiet-low words codes tokens fr u lo hi low filled i l h e =
-    rw (kind-field-at words codes tokens fr u lo hi low low filled i l h) (go (eqb (kind-of (getD words i 0)) TRUTH) (all-stand (at words) (at codes) u (q-of (getD words i 0)) (p-of (getD words i 0))))
+quiet-low words codes tokens fr H u lo hi low filled i l h e =
+    rw (kind-field-at words codes tokens fr H u lo hi low low filled i l h) (go (eqb (kind-of (getD words i 0)) TRUTH) (all-stand (at words) (at codes) u (q-of (getD words i 0)) (p-of (getD words i 0))))
   where
     go : (a b : Bool) → is-statement (cond a (cond b TRUTH FALSITY) (kind-of (getD words i 0))) ≡ false
     go true true = refl
@@ -72,11 +72,11 @@ quiet-low words codes tokens fr u lo hi low filled i l h e =
     go false b = e
 
 -- and a statement's own word is one still
-pub own-low : (words codes tokens fr : List ℕ) (u lo hi : ℕ) (low : List ℕ) → Filled (lower-at (at words) (at codes) (at tokens) (at fr) u lo) lo hi low low → (i : ℕ) → lo ≤ i → i < hi
+pub own-low : (words codes tokens fr : List ℕ) (H : Halves) (u lo hi : ℕ) (low : List ℕ) → Filled (lower-at (at words) (at codes) (at tokens) (at fr) H u lo) lo hi low low → (i : ℕ) → lo ≤ i → i < hi
     → is-statement (kind-of (getD words i 0)) ≡ true → is-statement (kind-of (getD low i 0)) ≡ true
 unfolding kind-field is-statement
-own-low words codes tokens fr u lo hi low filled i l h e =
-    rw (kind-field-at words codes tokens fr u lo hi low low filled i l h) (go (eqb (kind-of (getD words i 0)) TRUTH) (all-stand (at words) (at codes) u (q-of (getD words i 0)) (p-of (getD words i 0))) refl)
+own-low words codes tokens fr H u lo hi low filled i l h e =
+    rw (kind-field-at words codes tokens fr H u lo hi low low filled i l h) (go (eqb (kind-of (getD words i 0)) TRUTH) (all-stand (at words) (at codes) u (q-of (getD words i 0)) (p-of (getD words i 0))) refl)
   where
     go : (a b : Bool) → eqb (kind-of (getD words i 0)) TRUTH ≡ a → is-statement (cond a (cond b TRUTH FALSITY) (kind-of (getD words i 0))) ≡ true
     go true b f = contradiction (is-statement TRUTH) (subst (λ (j : ℕ). is-statement j ≡ true) (eqb-true (kind-of (getD words i 0)) TRUTH f) e) refl

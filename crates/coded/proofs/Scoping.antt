@@ -7,7 +7,7 @@ use native.Mathlib.Omega.{arith}
 use lib.ListN.{length, getD}
 use Rattle.definition.specs.Text.{Text, same, member, some-of, gather}
 use Rattle.definition.specs.Token.{Token}
-use Rattle.definition.specs.Syntax.{Term, name, string, anything, Expression, atom, truth, falsity, compare, negation, conjunction, disjunction, implication, equivalence, exists, for-all, closure-of, compare-relations, Item, rows, line-end}
+use Rattle.definition.specs.Syntax.{Term, name, string, anything, Expression, atom, truth, falsity, compare, matching, negation, conjunction, disjunction, implication, equivalence, exists, for-all, closure-of, compare-relations, Item, rows, line-end}
 use Rattle.definition.specs.Syntax as Syntax
 use Rattle.definition.specs.Names.{Use, term, attribute-only, variable-only, in-terms, in-expression, in-item, is-variable, free, closures, item-expressions}
 use Rattle.definition.specs.Meaning.{numbers}
@@ -19,7 +19,7 @@ use Rattle.definition.proofs.RowLaws.{Every}
 use Rattle.definition.proofs.FormLaws.{FormedWord, FormedLefts, FormedLabel, FormedItem, FormedItems}
 use Rattle.definition.proofs.BoolLaws.{contradiction}
 use Rattle.definition.proofs.ListLaws.{gather-append}
-use Rattle.words.specs.Fields.{word, RELATION-NAME, ATTRIBUTE, TERM, WORD, STRING}
+use Rattle.words.specs.Fields.{word, RELATION-NAME, ATTRIBUTE, TERM, WORD, MATCH, STRING}
 use Rattle.words.specs.Raw.{number, leaf, leaves, size, flat, size-item, flat-item, size-items, flat-items}
 use Rattle.words.specs.Tokens.{OwnName, OwnString, OwnTerm, OwnTerms, OwnExpression, OwnItem, OwnItems}
 use Rattle.words.specs.Standing.{Has}
@@ -90,9 +90,9 @@ module _ (C : Case) (scope : List Text) (s k : ℕ) (names : List Text) (P : Pla
   own-string : (i K q r : ℕ) (t : Token) → OwnString (C .ts) t → s ≤ i → i ≤ k → K < 256 → is-named K ≡ true → getD (C .words) i 0 ≡ word K (number t) q r → OwnString ts′ t
   own-string i K q r t o l h hK e x = keep-string (takes-token C scope s k names P) (C .ts) t o (word-takes i K (number t) q r l h hK e (omega (arith, o .inside, C .few)) x)
 
-  named-kinds : (is-named RELATION-NAME ≡ true) × (is-named ATTRIBUTE ≡ true) × (is-named TERM ≡ true) × (is-named WORD ≡ true) × (is-named (STRING + ATTRIBUTE) ≡ true) × (is-named (STRING + TERM) ≡ true) × (is-named (STRING + WORD) ≡ true)
+  named-kinds : (is-named RELATION-NAME ≡ true) × (is-named ATTRIBUTE ≡ true) × (is-named TERM ≡ true) × (is-named WORD ≡ true) × (is-named (STRING + ATTRIBUTE) ≡ true) × (is-named (STRING + TERM) ≡ true) × (is-named (STRING + WORD) ≡ true) × (is-named MATCH ≡ true)
   unfolding is-named
-  named-kinds = (refl, refl, refl, refl, refl, refl, refl)
+  named-kinds = (refl, refl, refl, refl, refl, refl, refl, refl)
 
   no-loop : (x : Text) → IsAttribute (C .kinds) x → v x ≡ false
   no-loop x e = sym (is-loop C x) ∙ ap is-variable e
@@ -153,6 +153,10 @@ module _ (C : Case) (scope : List Text) (s k : ℕ) (names : List Text) (P : Pla
   scoped (compare g p q) n S o c cl l h x = unfold AllNamed ScopedTerms leaves in (
       let r = scoped-terms (p ∷ q ∷ []) n (S .0, (S .1, tt)) o c l (omega arith) (x .0, (x .1 .0, tt)) in
       (r .0, r .1 .0))
+  scoped (matching t p) n S o c cl l h x = unfold AllNamed ScopedTerms leaves in (
+    own-string (n + 1) MATCH 0 n t (o .0) (omega arith) (omega arith) (omega arith) (named-kinds .7) (x .1 .0),
+    scoped-terms (p ∷ []) n (S, tt) (o .1) c l (omega arith) (x .0, tt) .0,
+  )
   scoped (negation e) n S o c cl l h x = scoped e n S o c cl l (omega arith) (has-one (C .words) n _ e x .inner)
   scoped (conjunction a b) n S o c cl l h x =
       let t = pair a b n _ c cl x in

@@ -1,7 +1,7 @@
 -- The codes of tokens, as the code of the pass works them out.
 use Prim.Native.Nat.{ℕ, _+_, _*_, _-_, _/_, _%_, _<_, _≤_}
 use mathlib.Core.Path.{_≡_, refl, sym, ap, _∙_}
-use mathlib.Core.Bool.{Bool, true, false, cond}
+use mathlib.Core.Bool.{Bool, true, false, _||_, cond, or-false}
 use mathlib.Core.List.{List, []}
 use native.Mathlib.Omega.{arith}
 use borrow.Author.Tests.{eq-eqb, ne-eqb, eqb-true, eqb-false, lt-ltb, le-ltb, le-leb, lt-leb, ltb-true}
@@ -28,19 +28,20 @@ named-name k n l =
     let b : k ≤ 7 = omega arith in
     rw (lt-ltb 0 k a, le-leb k 7 b) refl
 
-pub named-other : (k : ℕ) → 8 ≤ k → k < 42 → false ≡ is-named k
+pub named-other : (k : ℕ) → 8 ≤ k → k < 42 → eqb k 23 ≡ is-named k
 unfolding is-named
 named-other k l m =
     let a : 0 < k = omega arith in
     let b : 7 < k = omega arith in
-    rw (lt-ltb 0 k a, lt-leb k 7 b, lt-leb 42 k m) refl
+    rw (lt-ltb 0 k a, lt-leb k 7 b, lt-leb 42 k m) (sym (or-false (eqb k 23)))
 
 pub named-string : (k : ℕ) → 42 ≤ k → ltb k 45 ≡ is-named k
 unfolding is-named
 named-string k l =
     let a : 0 < k = omega arith in
     let b : 7 < k = omega arith in
-    rw (lt-ltb 0 k a, lt-leb k 7 b, le-leb 42 k l, leb·suc-suc k 44) refl
+    let c : k ≡ 23 → ⊥ = λ e. omega arith in
+    rw (lt-ltb 0 k a, lt-leb k 7 b, ne-eqb k 23 c, le-leb 42 k l, leb·suc-suc k 44) refl
 
 -- strings
 module _ (facts query : Text) (places tokens : List ℕ) (t w v i : ℕ) (ew : w ≡ getD tokens t 0) (ev : v ≡ token-part w) (ei : i ≡ index facts query v places) where

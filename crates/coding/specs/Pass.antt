@@ -7,7 +7,7 @@ use mathlib.Core.List.{List, []}
 use lib.Dec.{eqb, ltb, leb}
 use lib.ListN.{length, getD, set, take, drop}
 use Rattle.definition.specs.Text.{Text}
-use Rattle.words.specs.Fields.{kind-of, p-of, RANGE, NEXT, STRING, ATTRIBUTE, WORD}
+use Rattle.words.specs.Fields.{kind-of, p-of, MATCH, RANGE, NEXT, STRING, ATTRIBUTE, WORD}
 use Rattle.parts.specs.Packed.{pack}
 use Rattle.parts.specs.Entries.{index}
 use Rattle.intern.specs.Entries.{QUOTED, start-of}
@@ -15,7 +15,7 @@ use Rattle.slots.specs.declared.Found.{Found}
 use Rattle.slots.specs.Slots.{of-loop, names-of, Holds, slot-of, digit-at}
 use Rattle.free.specs.Words as Free
 use Rattle.free.specs.Words.{Small}
-use Rattle.lowering.specs.Lowering.{at, lower-at}
+use Rattle.lowering.specs.Lowering.{at, halves, lower-at}
 use Rattle.actions.specs.Parts.{is-statement, start}
 
 -- what the pass knows of loop variables: by the number of a name the depth of its FOR, and how many FORs are open
@@ -34,9 +34,9 @@ unfoldable pub depths-at : List ℕ → List ℕ → Depths → ℕ → Depths
 depths-at ids words d zero = d
 depths-at ids words d (suc k) = depths-after ids (getD words k 0) (depths-at ids words d k)
 
--- the words of names and strings: those of kinds 1 to 7, and the strings among them
+-- the words of names and strings: those of kinds 1 to 7, the strings among them, and those of a pattern
 unfoldable pub is-named : ℕ → Bool
-is-named k = (ltb 0 k && leb k NEXT) || (leb (STRING + ATTRIBUTE) k && leb k (STRING + WORD))
+is-named k = (ltb 0 k && leb k NEXT) || (eqb k MATCH || (leb (STRING + ATTRIBUTE) k && leb k (STRING + WORD)))
 
 -- the part of the query that a token's text is
 abbrev pub token-part : ℕ → ℕ
@@ -74,7 +74,7 @@ module _ (facts query : Text) (places tokens ids known : List ℕ) where
     pub fr : List ℕ
     pub free : Free.Filled words (digit-at found ids) fr s (suc k)
     pub small : Small fr
-    pub lowered : (i : ℕ) → s ≤ i → i ≤ k → getD low i 0 ≡ lower-at (at words) (at codes) (at tokens) (at fr) u s i
+    pub lowered : (i : ℕ) → s ≤ i → i ≤ k → getD low i 0 ≡ lower-at (at words) (at codes) (at tokens) (at fr) (halves facts query places (at tokens)) u s i
 
   -- every statement with at most four attribute names is lowered; d are the depths before the first word
   pub record Passed (words low : List ℕ) (u : ℕ) (d : Depths) : Type 0 where

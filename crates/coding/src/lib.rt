@@ -21,7 +21,7 @@ fn is_named(k: u64) -> bool
         return true;
     }
     if k < 42 {
-        return false;
+        return k == 23;
     }
     k < 45
 }
@@ -194,7 +194,7 @@ fn lower_statement<'a>(
         e,
     );
     free::fill(words, f, ids, fr, s, e);
-    lowering::lower_part(words, codes, tokens, fr, low, u, s, e);
+    lowering::lower_part(facts, query, places, words, codes, tokens, fr, low, u, s, e);
 }
 
 // How deep the words after w stand; at a FOR's set the depth of its variable.

@@ -13,7 +13,7 @@ use Rattle.definition.specs.Syntax.{Program}
 use Rattle.definition.specs.Answer.{Answer, ok, refused, _>>=_, _>>_, refuse-if}
 use Rattle.definition.specs.Facts.{Line, Element, Fact, Word, none, one, wrong, is-inside, quoted-word, bare-word, word, on-word, elements, skipped, fact}
 use Rattle.definition.specs.Facts.{Relation, Facts, insert, arities, add-relation, on-arities, use-relation, use-elements, last-place, with-fact, read-lines, read-facts}
-use Rattle.definition.specs.Names.{Use, Known, Rule, becomes, first, row, rule, learn, relation, Kinds, follow, use-name, use-names, numbered, fact-kinds, is-variable, variables, in-program, program-rows, left-strings}
+use Rattle.definition.specs.Names.{Use, Known, Rule, becomes, first, row, rule, learn, relation, Kinds, follow, use-name, use-names, numbered, fact-kinds, is-variable, variables, in-program, program-patterns, pattern-rows, program-rows, left-strings}
 use Rattle.definition.specs.Tables.{Tuple, table}
 use Rattle.definition.specs.Accept.{Accepted, accept, read-query}
 use Rattle.definition.specs.Assignment.{same-values, fact-holds, loaded, element-text}
@@ -231,8 +231,9 @@ module _ (limits : Limits) where
   same-accepted xs ys query h =
       bind-both _ _ h (λ f g a.
       bind-same (read-query query) _ _ (λ p.
+      then-same (pattern-rows (program-patterns p)) (
       bind-both _ _ (names-same (in-program p) (fact-kinds (f .relations)) (fact-kinds (g .relations)) (record { known = fun-ext (numbered-same 0 (a .relations)); relations = a .relations }))
-      (λ k l e. finish f g a p k l e)))
+      (λ k l e. finish f g a p k l e))))
     where
       finish : (f g : Facts) → Alike f g → (p : Program) (k l : Kinds) → SameKinds k l
           → Both SameAccepted

@@ -6,7 +6,7 @@ use mathlib.Core.List.{List, [], _∷_, map}
 use Prim.Native.Nat.{ℕ, zero, suc}
 use lib.ListN.{length}
 use Rattle.definition.specs.Text.{Text, keep, some-of, all-of, below}
-use Rattle.definition.specs.Syntax.{Term, name, string, anything, Expression, atom, truth, falsity, compare, negation, conjunction, disjunction, implication, equivalence, exists, for-all, closure-of, compare-relations}
+use Rattle.definition.specs.Syntax.{Term, name, string, anything, Expression, atom, truth, falsity, compare, matching, negation, conjunction, disjunction, implication, equivalence, exists, for-all, closure-of, compare-relations}
 use Rattle.definition.specs.Syntax.{Program, Item, rows, word, line-end}
 use Rattle.definition.specs.Facts.{Relation, Fact}
 use Rattle.definition.specs.Names.{free, join}
@@ -55,6 +55,7 @@ module _ (universe : List Text) (variables : Text → Bool) (program : Program) 
   mean-same ts env (truth ps) = rw (readings-same env ps)
   mean-same ts env (falsity ps) = refl
   mean-same ts env (compare g p q) = rw (readings-same env (p ∷ q ∷ []))
+  mean-same ts env (matching s p) = rw (choices-same env p)
   mean-same ts env (negation e) = rw (mean-same ts env e)
   mean-same ts env (conjunction a b) = rw (mean-same ts env a, mean-same ts env b)
   mean-same ts env (disjunction a b) = rw (mean-same ts env a, mean-same ts env b)

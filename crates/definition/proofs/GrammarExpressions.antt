@@ -5,7 +5,7 @@
 --   implication    implication-rule; implies-rule iff-rule no-consequent!
 --   | and &        disjunction-rule more-or-rule end-or!; conjunction-rule more-and-rule end-and!
 --   !              negation-rule; primary-rule, at any other token
---   primary        group-rule, ex-rule fa-rule, tc-rule tcfast-rule, true-rule false-rule, sign-before-rule; no-primary!
+--   primary        group-rule, ex-rule fa-rule, tc-rule tcfast-rule, true-rule false-rule, sign-before-rule, pattern-rule; no-primary!
 --   by its second token: atom! atom-fails!, between! between-fails!, name-alone! string-alone! any-alone!
 --   EX and FA      one-more! one-more-fails! (identifier and comma); body-rule, or body-name-rule after an identifier
 use Prim.Native.Nat.{ℕ, _≤_}
@@ -18,9 +18,9 @@ use Rattle.definition.proofs.BoolLaws.{apart}
 use Rattle.definition.proofs.GrammarComplete.{Halts, on-not}
 use Rattle.definition.proofs.GrammarReads.{Begins, begins-halts, begins-as, Takes, keys-alone, not-key, only-key, only-sign, neither, Next, nothing, a-name, a-string, a-sign, a-key, next, Reads, Fails, Rule, read!, fail!, Stands, _▸_, _▹_, stop!, done!, empty!, none!, sign!, no-sign!, unit-eq, like-eq, via, goes, on-goes, on-halts}
 use Rattle.definition.specs.Grammar.{Tree, Term, Terms, MoreTerms, Expression, Comparison, Implication, Consequent, Disjunction, MoreOr, Conjunction, MoreAnd, Negation, Primary, Quantified, flat}
-use Rattle.definition.specs.Grammar.{no-terms, terms, end-terms, more-terms, term-name, term-string, term-any, expression, no-comparison, comparison, implication, no-consequent, implies, iff, disjunction, end-or, more-or, conjunction, end-and, more-and, negation, primary, group, ex, fa, tc, tcfast, atom, true-atom, false-atom, sign-before, sign-between, one-more-attribute, quantified-body}
-use Rattle.definition.specs.Reader.{Symbol, phrase, fixed, identifier, any-sign, after-name, after-quantified, level-end, on-key, wrap, levels-open, as-negation, as-body, as-quantified-rest, arguments, compared-with, quantified-more, primary-of, quantified-of, map-reading, read}
-use Rattle.definition.specs.Token.{Terminal, name, string, sign, key, Sign, LPAREN, RPAREN, COMMA, AND, OR, NOT, IMPLIES, IFF, UNDERSCORE, EX, FA, TC, TCFAST, TRUE, FALSE}
+use Rattle.definition.specs.Grammar.{no-terms, terms, end-terms, more-terms, term-name, term-string, term-any, expression, no-comparison, comparison, implication, no-consequent, implies, iff, disjunction, end-or, more-or, conjunction, end-and, more-and, negation, primary, group, ex, fa, tc, tcfast, atom, true-atom, false-atom, sign-before, sign-between, pattern-atom, one-more-attribute, quantified-body}
+use Rattle.definition.specs.Reader.{Symbol, phrase, fixed, identifier, any-string, any-sign, after-name, after-quantified, level-end, on-key, wrap, levels-open, as-negation, as-body, as-quantified-rest, arguments, compared-with, quantified-more, primary-of, quantified-of, map-reading, read}
+use Rattle.definition.specs.Token.{Terminal, name, string, sign, key, Sign, LPAREN, RPAREN, COMMA, AND, OR, NOT, IMPLIES, IFF, UNDERSCORE, EX, FA, TC, TCFAST, TRUE, FALSE, AT}
 
 -- Terms.
 pub term-name-rule : {x : ℕ} → Rule (phrase Term) (name x) [] (λ fs. term-name x)
@@ -174,20 +174,24 @@ false-rule = record { is = λ s. refl }
 pub sign-before-rule : {g : Sign} → Rule (phrase Primary) (sign g) (fixed LPAREN ∷ phrase Term ∷ fixed COMMA ∷ phrase Term ∷ fixed RPAREN ∷ []) (λ fs. sign-before g (fs .1 .0) (fs .1 .1 .1 .0))
 sign-before-rule = record { is = λ s. refl }
 
+pub pattern-rule : Rule (phrase Primary) (key AT) (any-string ∷ fixed LPAREN ∷ phrase Term ∷ fixed RPAREN ∷ []) (λ fs. pattern-atom (fs .0) (fs .1 .1 .0))
+unfolding on-key
+pattern-rule = record { is = λ s. refl }
+
 -- the tokens that begin a primary
 abbrev pub begins-primary : Next → Bool
 begins-primary nothing = false
 begins-primary a-name = true
 begins-primary a-string = true
 begins-primary (a-sign g) = true
-begins-primary (a-key k) = eqb k LPAREN || (eqb k EX || (eqb k FA || (eqb k TC || (eqb k TCFAST || (eqb k TRUE || (eqb k FALSE || (eqb k UNDERSCORE || false)))))))
+begins-primary (a-key k) = eqb k LPAREN || (eqb k EX || (eqb k FA || (eqb k TC || (eqb k TCFAST || (eqb k TRUE || (eqb k FALSE || (eqb k AT || (eqb k UNDERSCORE || false))))))))
 
-pub not-primary : (n : Next) → (n ≡ a-name → ⊥) → (n ≡ a-string → ⊥) → ((g : Sign) → n ≡ a-sign g → ⊥) → (n ≡ a-key LPAREN → ⊥) → (n ≡ a-key EX → ⊥) → (n ≡ a-key FA → ⊥) → (n ≡ a-key TC → ⊥) → (n ≡ a-key TCFAST → ⊥) → (n ≡ a-key TRUE → ⊥) → (n ≡ a-key FALSE → ⊥) → (n ≡ a-key UNDERSCORE → ⊥) → begins-primary n ≡ false
-not-primary nothing x y z a b c d e f g h = refl
-not-primary a-name x y z a b c d e f g h = absurd (x refl)
-not-primary a-string x y z a b c d e f g h = absurd (y refl)
-not-primary (a-sign i) x y z a b c d e f g h = absurd (z i refl)
-not-primary (a-key k) x y z a b c d e f g h = neither k LPAREN _ a (neither k EX _ b (neither k FA _ c (neither k TC _ d (neither k TCFAST _ e (neither k TRUE _ f (neither k FALSE _ g (neither k UNDERSCORE _ h refl)))))))
+pub not-primary : (n : Next) → (n ≡ a-name → ⊥) → (n ≡ a-string → ⊥) → ((g : Sign) → n ≡ a-sign g → ⊥) → (n ≡ a-key LPAREN → ⊥) → (n ≡ a-key EX → ⊥) → (n ≡ a-key FA → ⊥) → (n ≡ a-key TC → ⊥) → (n ≡ a-key TCFAST → ⊥) → (n ≡ a-key TRUE → ⊥) → (n ≡ a-key FALSE → ⊥) → (n ≡ a-key AT → ⊥) → (n ≡ a-key UNDERSCORE → ⊥) → begins-primary n ≡ false
+not-primary nothing x y z a b c d e f g h i = refl
+not-primary a-name x y z a b c d e f g h i = absurd (x refl)
+not-primary a-string x y z a b c d e f g h i = absurd (y refl)
+not-primary (a-sign j) x y z a b c d e f g h i = absurd (z j refl)
+not-primary (a-key k) x y z a b c d e f g h i = neither k LPAREN _ a (neither k EX _ b (neither k FA _ c (neither k TC _ d (neither k TCFAST _ e (neither k TRUE _ f (neither k FALSE _ g (neither k AT _ h (neither k UNDERSCORE _ i refl))))))))
 
 pub no-primary! : {d : ℕ} {ts : List Terminal} → begins-primary (next ts) ≡ false → Fails d (phrase Primary ∷ []) ts 10 ts
 no-primary! {ts = ts} h = none! (phrase Primary) ts refl (at ts h)
@@ -197,7 +201,7 @@ no-primary! {ts = ts} h = none! (phrase Primary) ts refl (at ts h)
     at (name x ∷ l) h = absurd (apart h)
     at (string x ∷ l) h = absurd (apart h)
     at (sign g ∷ l) h = absurd (apart h)
-    at (key k ∷ l) h = λ s. on-halts k LPAREN _ _ (eqb k EX || (eqb k FA || (eqb k TC || (eqb k TCFAST || (eqb k TRUE || (eqb k FALSE || (eqb k UNDERSCORE || false))))))) (on-halts k EX _ _ (eqb k FA || (eqb k TC || (eqb k TCFAST || (eqb k TRUE || (eqb k FALSE || (eqb k UNDERSCORE || false)))))) (on-halts k FA _ _ (eqb k TC || (eqb k TCFAST || (eqb k TRUE || (eqb k FALSE || (eqb k UNDERSCORE || false))))) (on-halts k TC _ _ (eqb k TCFAST || (eqb k TRUE || (eqb k FALSE || (eqb k UNDERSCORE || false)))) (on-halts k TCFAST _ _ (eqb k TRUE || (eqb k FALSE || (eqb k UNDERSCORE || false))) (on-halts k TRUE _ _ (eqb k FALSE || (eqb k UNDERSCORE || false)) (on-halts k FALSE _ _ (eqb k UNDERSCORE || false) (on-halts k UNDERSCORE _ _ false (λ e. refl)))))))) h
+    at (key k ∷ l) h = λ s. on-halts k LPAREN _ _ (eqb k EX || (eqb k FA || (eqb k TC || (eqb k TCFAST || (eqb k TRUE || (eqb k FALSE || (eqb k AT || (eqb k UNDERSCORE || false)))))))) (on-halts k EX _ _ (eqb k FA || (eqb k TC || (eqb k TCFAST || (eqb k TRUE || (eqb k FALSE || (eqb k AT || (eqb k UNDERSCORE || false))))))) (on-halts k FA _ _ (eqb k TC || (eqb k TCFAST || (eqb k TRUE || (eqb k FALSE || (eqb k AT || (eqb k UNDERSCORE || false)))))) (on-halts k TC _ _ (eqb k TCFAST || (eqb k TRUE || (eqb k FALSE || (eqb k AT || (eqb k UNDERSCORE || false))))) (on-halts k TCFAST _ _ (eqb k TRUE || (eqb k FALSE || (eqb k AT || (eqb k UNDERSCORE || false)))) (on-halts k TRUE _ _ (eqb k FALSE || (eqb k AT || (eqb k UNDERSCORE || false))) (on-halts k FALSE _ _ (eqb k AT || (eqb k UNDERSCORE || false)) (on-halts k AT _ _ (eqb k UNDERSCORE || false) (on-halts k UNDERSCORE _ _ false (λ e. refl))))))))) h
 
 -- Primaries that begin with a term, told by the token behind it.
 name-rule : {x : ℕ} → Rule (phrase Primary) (name x) (after-name ∷ []) (λ fs. primary-of x (fs .0))

@@ -10,10 +10,9 @@ use Rattle.definition.proofs.GrammarMachine.{flat-value, flat-forest, O
 use Rattle.definition.proofs.GrammarPlaces.{logO}
 use Rattle.definition.proofs.GrammarSound.{Fair, whole, part, mach-fair}
 use Rattle.definition.proofs.GrammarTold.{plain, cut, read-cut}
-use Rattle.definition.proofs.GrammarReads.{Reads, cat, level, at-level, done!, _▸_, read!, token!, name!, sign! }
-use Rattle.definition.proofs.GrammarStatements.{left-string-rule}
-use Rattle.definition.specs.Grammar.{Nonterminal, Tree, flat, Left, left-string}
-use Rattle.definition.specs.Reader.{Symbol, phrase, fixed, identifier, any-sign, level-end, Value, Forest, levels-open, Reading, read-as, refused-at, map-reading, pick-reading, finish-reading, read}
+use Rattle.definition.proofs.GrammarReads.{Reads, cat, level, at-level, done!, _▸_, token!, name!, string!, sign! }
+use Rattle.definition.specs.Grammar.{Nonterminal, Tree, flat}
+use Rattle.definition.specs.Reader.{Symbol, phrase, fixed, identifier, any-string, any-sign, level-end, Value, Forest, levels-open, Reading, read-as, refused-at, map-reading, pick-reading, finish-reading, read}
 use Rattle.definition.specs.Syntax.{size}
 use Rattle.definition.specs.Token.{Terminal, name, string, sign, key}
 
@@ -40,13 +39,13 @@ read-flat ts s fs e = fair-flat ts fs (mach ts s) (mach-fair ts s) (cut-read ts 
 -- A stack at level d that reads the tokens l.
 abbrev symbol : Terminal → Symbol
 symbol (name x) = identifier
-symbol (string x) = phrase Left
+symbol (string x) = any-string
 symbol (sign g) = any-sign
 symbol (key k) = fixed k
 
 abbrev value : (t : Terminal) → Value (symbol t)
 value (name x) = x
-value (string x) = left-string x
+value (string x) = x
 value (sign g) = g
 value (key k) = tt
 
@@ -67,7 +66,7 @@ same-level (key k ∷ l) d = same-level l d
 
 one-read : {d : ℕ} → d ≤ 32 → (t : Terminal) (l : List Terminal) → Reads d (symbol t ∷ []) (t ∷ l) (value t, tt) l
 one-read m (name x) l = name! m refl
-one-read m (string x) l = read! left-string-rule m refl done!
+one-read m (string x) l = string! m refl
 one-read m (sign g) l = sign! m refl
 one-read m (key k) l = token! m refl
 

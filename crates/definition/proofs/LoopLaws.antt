@@ -10,7 +10,7 @@ use lib.ListN.{length}
 use Rattle.definition.specs.Text.{Text, same, all-of, gather}
 use Rattle.definition.specs.Limits.{Limits}
 use Rattle.definition.specs.Token.{Token}
-use Rattle.definition.specs.Syntax.{Term, name, string, anything, Expression, atom, truth, falsity, compare, negation, conjunction, disjunction, implication, equivalence, exists, for-all, closure-of, compare-relations}
+use Rattle.definition.specs.Syntax.{Term, name, string, anything, Expression, atom, truth, falsity, compare, matching, negation, conjunction, disjunction, implication, equivalence, exists, for-all, closure-of, compare-relations}
 use Rattle.definition.specs.Syntax.{Item, rows, word, line-end, Program, end, assign, print, test, while, for, block}
 use Rattle.definition.specs.Answer.{ok}
 use Rattle.definition.specs.Names.{Role, before-terms, attribute-only, term, variable-only, after-for, enter, leave, Use, use-as, in-terms, in-expression, in-item, in-program, Known, nothing, attribute, variable, open-variable, relation, Rule, becomes, first, row, rule, Kinds, learn, use-name, use-names, is-variable}
@@ -96,6 +96,7 @@ plain-expression (atom r ps) = plain-terms term tt ps
 plain-expression (truth ps) = plain-terms term tt ps
 plain-expression (falsity ps) = plain-terms term tt ps
 plain-expression (compare g p q) = plain-terms term tt (p ∷ q ∷ [])
+plain-expression (matching s p) = plain-terms term tt (p ∷ [])
 plain-expression (negation e) = plain-expression e
 plain-expression (conjunction a b) = plain-append (in-expression a) (in-expression b) (plain-expression a) (plain-expression b)
 plain-expression (disjunction a b) = plain-append (in-expression a) (in-expression b) (plain-expression a) (plain-expression b)

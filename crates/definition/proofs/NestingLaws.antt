@@ -152,6 +152,7 @@ module _ (ts : List Token) (P : ℕ → Program → Type 0) (step : Steps ts P) 
   holds (Tree.false-atom u) d h = tt
   holds (Tree.sign-before g a b) d h = tt
   holds (Tree.sign-between a g b) d h = tt
+  holds (Tree.pattern-atom s a) d h = tt
   holds (Tree.one-more-attribute x q) d h = tt
   holds (Tree.quantified-body e) d h = tt
 

@@ -10,7 +10,7 @@ use borrow.Author.Tests.{ltb-false}
 use Rattle.definition.specs.Text.{Text, same, member, some-of, gather}
 use Rattle.definition.specs.Limits.{Limits, ARITY}
 use Rattle.definition.specs.Token.{Token}
-use Rattle.definition.specs.Syntax.{Term, name, string, anything, Expression, atom, truth, falsity, compare, negation, conjunction, disjunction, implication, equivalence, exists, for-all, closure-of, compare-relations}
+use Rattle.definition.specs.Syntax.{Term, name, string, anything, Expression, atom, truth, falsity, compare, matching, negation, conjunction, disjunction, implication, equivalence, exists, for-all, closure-of, compare-relations}
 use Rattle.definition.specs.Syntax.{Item, rows, word, line-end, Program, end, assign, print, test, while, for, block}
 use Rattle.definition.specs.Answer.{Answer, ok, _>>=_}
 use Rattle.definition.specs.Facts.{Relation}
@@ -65,6 +65,7 @@ module _ (k : Kinds) (scope : List Text) where
   ScopedExpression (truth ps) = ScopedTerms ps
   ScopedExpression (falsity ps) = ScopedTerms ps
   ScopedExpression (compare g p q) = ScopedTerm p × ScopedTerm q
+  ScopedExpression (matching s p) = ScopedTerm p
   ScopedExpression (negation e) = ScopedExpression e
   ScopedExpression (conjunction a b) = ScopedExpression a × ScopedExpression b
   ScopedExpression (disjunction a b) = ScopedExpression a × ScopedExpression b
@@ -306,6 +307,7 @@ module _ (limits : Limits) (k : Kinds) where
   scoped-expression s (truth ps) = scoped-terms s ps
   scoped-expression s (falsity ps) = scoped-terms s ps
   scoped-expression s (compare g p q) = scopes-map (λ h. (h .0, h .1 .0)) (scoped-terms s (p ∷ q ∷ []))
+  scoped-expression s (matching t p) = scopes-map (λ h. h .0) (scoped-terms s (p ∷ []))
   scoped-expression s (negation e) = scoped-expression s e
   scoped-expression s (conjunction a b) = scopes-then (scoped-expression s a) (scoped-expression s b)
   scoped-expression s (disjunction a b) = scopes-then (scoped-expression s a) (scoped-expression s b)

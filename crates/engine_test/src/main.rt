@@ -1,5 +1,5 @@
-// Runs the worked cases of document 01, texts that a wrong engine would answer otherwise and texts that are refused, each with its own
-// budget, store and output. Prints the case's letter, what the text is for or the row, with the query; then what the calls answer and how
+// Runs the worked cases of document 01, texts that a wrong engine would answer otherwise, patterns, and texts that are refused, each with its
+// own budget, store and output. Prints the case's letter, what the text is for or the row, with the query; then what the calls answer and how
 // many bytes of the output are as they were lent.
 use definition::Checked;
 use definition::Figures;
@@ -216,6 +216,22 @@ fn all_elements() {
         b"R 0 1\nR 2 3\nR 4 5\nR 6 7\nR 8 9\nR A B\nR C D\nR E F\nR G H\nR I J\nR K L\nR M N\nR O P\nR Q R\nR S T\nR U V\nR W X\nR Y Z\nR _ a\nR b c\nR d e\nR f g\nR h i\nR j k\nR l m\nR n o\nR p q\nR r s\nR t u\nR v w\nR x y\nR z ~\n";
     run(b"element 63", facts, b"PRINT x = \"~\";", 1, 1152, 256);
     run(b"row 7", facts, b"P(\"new\");", 1, 1152, 256);
+    run(
+        b"elements 1, 37, 63",
+        facts,
+        b"PRINT @\"[1a~]\"(x);",
+        1,
+        1152,
+        256,
+    );
+    run(
+        b"element 63",
+        facts,
+        b"IF @\"~\"(\"~\") { PRINT \"yes\", ENDL; }",
+        2,
+        1152,
+        256,
+    );
 }
 
 // "The same facts saved either way .. load to the same tables": cases A and B, but for offsets.
@@ -254,6 +270,29 @@ fn limits<'a>(facts: &'a [u8]) {
     run_all(b"row 13", facts, b"PRINT EX(a,b,c,d,e, On(a,b));");
 }
 
+// "`@s(term)` .. true for universe elements that match": each kind of term.
+fn patterns<'a>(facts: &'a [u8]) {
+    run_all(b"a pattern", facts, b"PRINT @\"^C1\"(x);");
+    run_all(
+        b"two patterns",
+        facts,
+        b"PRINT On(x,y) & @\"^C\"(x) & !@\"0$\"(x);",
+    );
+    run_all(b"quantified", facts, b"PRINT EX(y, On(x,y) & @\"5$\"(y));");
+    run_all(
+        b"other terms",
+        facts,
+        b"FOR v IN @\"7\"(x) { PRINT @\"7\"(v), @\"7\"(\"C5\"), @\"7\"(\"Z\"), @\"2\"(_); }",
+    );
+}
+
+fn patterns_refused<'a>(facts: &'a [u8]) {
+    run_all(b"row 10", facts, b"PRINT @x(y);");
+    run_all(b"row 18", facts, b"PRINT @\"\"(x);");
+    run_all(b"row 18", facts, b"PRINT @\"C\"(x), @\"[b-a]\"(x);");
+    run_all(b"row 18", facts, b"PRINT x, @\"a**\"(x);");
+}
+
 fn main() {
     let f = b"On C10 C5\nOn C5 C2\nOn B7 C10\nHeld B7\n";
     let dep = b"Dep(x,y) := TC(On(x,y)); PRINT [\"Dep\"] Dep(x,y);";
@@ -268,4 +307,6 @@ fn main() {
     facts_refused();
     query_refused(f);
     limits(f);
+    patterns(f);
+    patterns_refused(f);
 }

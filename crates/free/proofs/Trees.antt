@@ -8,9 +8,9 @@ use borrow.Author.Tests.{ne-eqb, lt-ltb, le-ltb, lt-leb, le-leb}
 use lib.ListN.{length, getD}
 use Rattle.definition.specs.Text.{Text, same, member, keep}
 use Rattle.definition.specs.Token.{Token}
-use Rattle.definition.specs.Syntax.{Term, name, string, anything, Expression, atom, truth, falsity, compare, negation, conjunction, disjunction, implication, equivalence, exists, for-all, closure-of, compare-relations}
+use Rattle.definition.specs.Syntax.{Term, name, string, anything, Expression, atom, truth, falsity, compare, matching, negation, conjunction, disjunction, implication, equivalence, exists, for-all, closure-of, compare-relations}
 use Rattle.definition.specs.Names.{term, in-expression, join, attributes, free}
-use Rattle.words.specs.Fields.{word, kind-of, RELATION-NAME, ATTRIBUTE, TERM, ANYTHING, ATOM, TRUTH, FALSITY, ORDER, NEGATION, CONJUNCTION, DISJUNCTION, IMPLICATION, EQUIVALENCE, EXISTS, FOR-ALL, CLOSURE, STRING}
+use Rattle.words.specs.Fields.{word, kind-of, RELATION-NAME, ATTRIBUTE, TERM, ANYTHING, ATOM, TRUTH, FALSITY, ORDER, NEGATION, CONJUNCTION, DISJUNCTION, IMPLICATION, EQUIVALENCE, EXISTS, FOR-ALL, CLOSURE, MATCH, STRING}
 use Rattle.words.specs.Raw.{number, sign-number, leaf, leaves, size, over, flat}
 use Rattle.words.specs.Tokens.{OwnName, OwnTerm, OwnTerms, OwnExpression}
 use Rattle.words.proofs.FieldLaws.{kind-word, p-word, q-word}
@@ -109,11 +109,16 @@ module _ (ts : List Token) (few : length ts < 65536) (words fr : List ℕ) (s N 
   atom-free k c p q r lc hc l h e =
       filled k l h ∙ rw (e, kind-word c p q r (omega arith), op-leaf c lc (omega arith), le-ltb c 10 lc, lt-ltb c 14 hc) refl
 
-  -- an operator's word
-  operator-free : (k c p q r : ℕ) → 14 ≤ c → c < 43 → s ≤ k → k < N → getD words k 0 ≡ word c p q r → getD fr k 0 ≡ operator (at words) D (at fr) k (word c p q r)
+  -- a half of the elements that match a pattern
+  half-free : (k p q r : ℕ) → s ≤ k → k < N → getD words k 0 ≡ word MATCH p q r → getD fr k 0 ≡ before k
   unfolding free-word
-  operator-free k c p q r lc hc l h e =
-      filled k l h ∙ rw (e, kind-word c p q r (omega arith), op-leaf c (omega arith) hc, le-ltb c 10 (omega arith), le-ltb c 14 lc) refl
+  half-free k p q r l h e = filled k l h ∙ rw (e, kind-word MATCH p q r (omega arith), op-leaf MATCH (omega arith) (omega arith)) refl
+
+  -- an operator's word
+  operator-free : (k c p q r : ℕ) → 14 ≤ c → c < 43 → (c ≡ MATCH → ⊥) → s ≤ k → k < N → getD words k 0 ≡ word c p q r → getD fr k 0 ≡ operator (at words) D (at fr) k (word c p q r)
+  unfolding free-word
+  operator-free k c p q r lc hc z l h e =
+      filled k l h ∙ rw (e, kind-word c p q r (omega arith), op-leaf c (omega arith) hc, le-ltb c 10 (omega arith), le-ltb c 14 lc, ne-eqb c MATCH z) refl
 
   below-there : (k c : ℕ) → c < k → below (at fr) k c ≡ getD fr c 0
   unfolding below
@@ -123,31 +128,31 @@ module _ (ts : List Token) (few : length ts < 65536) (words fr : List ℕ) (s N 
     negation-free : c ≡ 14 → p < k → getD fr k 0 ≡ getD fr p 0
     unfolding operator
     negation-free z lp =
-        operator-free k c p q r (omega arith) (omega arith) l h e
+        operator-free k c p q r (omega arith) (omega arith) (λ i. omega arith) l h e
         ∙ rw (kind-word c p q r (omega arith), p-word c p q r (omega arith) hp, z) (below-there k p lp)
 
     closure-free : c ≡ 21 → p < k → getD fr k 0 ≡ getD fr p 0
     unfolding operator
     closure-free z lp =
-        operator-free k c p q r (omega arith) (omega arith) l h e
+        operator-free k c p q r (omega arith) (omega arith) (λ i. omega arith) l h e
         ∙ rw (kind-word c p q r (omega arith), p-word c p q r (omega arith) hp, z) (below-there k p lp)
 
     two-free : 15 ≤ c → c < 19 → p < k → q < k → getD fr k 0 ≡ joined (getD fr p 0) (getD fr q 0)
     unfolding operator
     two-free lc hc lp lq =
-        operator-free k c p q r (omega arith) (omega arith) l h e
+        operator-free k c p q r (omega arith) (omega arith) (λ i. omega arith) l h e
         ∙ rw (kind-word c p q r (omega arith), p-word c p q r (omega arith) hp, q-word c p q r (omega arith) hp hq, ne-eqb c 14 (λ z. omega arith), lt-ltb c 19 hc, below-there k p lp, below-there k q lq) refl
 
     quantifier-free : 19 ≤ c → c < 21 → q < k → getD fr k 0 ≡ without (getD fr q 0) (D (getD words p 0))
     unfolding operator
     quantifier-free lc hc lq =
-        operator-free k c p q r (omega arith) (omega arith) l h e
+        operator-free k c p q r (omega arith) (omega arith) (λ i. omega arith) l h e
         ∙ rw (kind-word c p q r (omega arith), p-word c p q r (omega arith) hp, q-word c p q r (omega arith) hp hq, ne-eqb c 14 (λ z. omega arith), le-ltb c 19 lc, lt-ltb c 21 hc, below-there k q lq) refl
 
     comparison-free : c ≡ 22 → getD fr k 0 ≡ 0
     unfolding operator
     comparison-free z =
-        operator-free k c p q r (omega arith) (omega arith) l h e ∙ rw (kind-word c p q r (omega arith), z) refl
+        operator-free k c p q r (omega arith) (omega arith) (λ i. omega arith) l h e ∙ rw (kind-word c p q r (omega arith), z) refl
 
   -- what is shown of a tree whose words stand from n on
   pub record Bottom (e : Expression) (n : ℕ) : Type 0 where
@@ -155,6 +160,10 @@ module _ (ts : List Token) (few : length ts < 65536) (words fr : List ℕ) (s N 
     pub listed : Listed 4 (slots (free vs e))
     pub inside : AllIn names (free vs e)
     pub ended : before (n + size e) ≡ 0
+
+  one-has : (p : Term) (n : ℕ) → getD words n 0 ≡ leaf TERM p → Has words n (leaves TERM (p ∷ []))
+  unfolding Has leaves
+  one-has p n e = (e, tt)
 
   nil-in : AllIn names []
   unfolding AllIn
@@ -196,6 +205,28 @@ module _ (ts : List Token) (few : length ts < 65536) (words fr : List ℕ) (s N 
         listed = rw (ef, m) (listed-adds 4 (slots (free vs a)) (slots (free vs b)) (A .listed) (B .listed));
         inside = rw ef (all-join names (free vs a) (free vs b) (A .inside) (B .inside));
         ended = rw (← j) (after-other k c (n + size a - 1) (k - 1) 0 (omega arith) (omega arith) (op-leaf c (omega arith) (omega arith)) (o .root));
+      }
+
+  -- a pattern whose term stands at n
+  matching-out : (t : Token) (p : Term) (n : ℕ) → s ≤ n → n + 4 ≤ N → OwnTerms ts (p ∷ []) → TermsIn names vs loops (p ∷ []) → before n ≡ 0 →
+      getD words n 0 ≡ leaf TERM p → getD words (n + 1) 0 ≡ word MATCH (number t) 0 n → getD words (n + 2) 0 ≡ word MATCH (number t) 32 n → getD words (n + 3) 0 ≡ word DISJUNCTION (n + 1) (n + 2) 0 →
+      Bottom (matching t p) n
+  unfolding free size adds
+  matching-out t p n l h o ti cl x y z w =
+      let ds = adds [] (map digit-of (p ∷ [])) in
+      let u = terms-free (p ∷ []) n [] l (omega arith) o (one-has p n x) nil-listed (cl ∙ sym pack-nil) in
+      let i : n + 1 + 1 ≡ n + 2 = omega arith in
+      let j : n + 3 + 1 ≡ n + 4 = omega arith in
+      let k : n + 4 - 1 ≡ n + 3 = omega arith in
+      let low : getD fr (n + 1) 0 ≡ pack ds = half-free (n + 1) (number t) 0 n (omega arith) (omega arith) y ∙ u .0 in
+      let none : before (n + 2) ≡ 0 = rw (← i) (after-other (n + 1) MATCH (number t) 0 n (omega arith) (omega arith) (op-leaf MATCH (omega arith) (omega arith)) y) in
+      let high : getD fr (n + 2) 0 ≡ pack [] = half-free (n + 2) (number t) 32 n (omega arith) (omega arith) z ∙ none ∙ sym pack-nil in
+      record {
+        value = rw k (two-free (n + 3) DISJUNCTION (n + 1) (n + 2) 0 (omega arith) (omega arith) (omega arith) (omega arith) w (omega arith) (omega arith) (omega arith) (omega arith)
+            ∙ rw (low, high, ← atom-slots (p ∷ []) ti) (joined-law ds [] (u .1) nil-listed));
+        listed = rw (← atom-slots (p ∷ []) ti) (u .1);
+        inside = all-attributes names vs loops (p ∷ []) ti;
+        ended = rw (← j) (after-other (n + 3) DISJUNCTION (n + 1) (n + 2) 0 (omega arith) (omega arith) (op-leaf DISJUNCTION (omega arith) (omega arith)) w);
       }
 
   quantifier-out : (e a : Expression) (x : Token) (n c : ℕ) → free vs e ≡ keep (λ y. not (same y (x .text))) (free vs a) → size e ≡ size a + 2 → s ≤ n → n + size e ≤ N → 19 ≤ c → c < 21 → OwnName ts x →
@@ -263,6 +294,12 @@ module _ (ts : List Token) (few : length ts < 65536) (words fr : List ℕ) (s N 
   bottom (compare g p q) n o c l h cl w =
       let i : n + 1 + 1 ≡ n + 2 = omega arith in
       atom-out (compare g p q) n n (n + 2) ORDER n (sign-number g) 0 (p ∷ q ∷ []) refl refl (omega arith) l h (omega arith) (omega arith) o (covered-terms names vs loops term (p ∷ q ∷ []) refl c) (two-has p q n (w .0) (w .1 .0)) (rw i at (w .1 .1 .0)) cl
+  bottom (matching t p) n o c l h cl w =
+      let i : n + 1 + 1 ≡ n + 2 = omega arith in
+      let j : n + 1 + 1 + 1 ≡ n + 3 = omega arith in
+      let a : n + 2 - 1 ≡ n + 1 = omega arith in
+      let b : n + 3 - 1 ≡ n + 2 = omega arith in
+      matching-out t p n l h (o .1) (covered-terms names vs loops term (p ∷ []) refl c) cl (w .0) (w .1 .0) (rw i at (w .1 .1 .0)) (rw (j, a, b) at (w .1 .1 .1 .0))
   bottom (negation a) n o c l h cl w =
       let t = has-one words n _ a w in
       let A = bottom a n o c l (omega arith) cl (t .inner) in

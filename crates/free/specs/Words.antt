@@ -6,7 +6,7 @@ use mathlib.Core.Bool.{Bool, true, cond}
 use mathlib.Core.List.{List}
 use lib.Dec.{eqb, ltb, leb}
 use lib.ListN.{getD}
-use Rattle.words.specs.Fields.{kind-of, p-of, q-of, TERM, ANYTHING, ATOM, NEGATION, EXISTS, CLOSURE, STRING}
+use Rattle.words.specs.Fields.{kind-of, p-of, q-of, TERM, ANYTHING, ATOM, NEGATION, EXISTS, CLOSURE, MATCH, STRING}
 use Rattle.digits.specs.Packed.{plus, joined, without}
 
 -- the words of terms
@@ -34,10 +34,12 @@ module _ (R D F : ℕ → ℕ) where
       cond (eqb c NEGATION) (below F k a)
       (cond (ltb c EXISTS) (joined (below F k a) (below F k b)) (cond (ltb c CLOSURE) (without (below F k b) (D (R a))) (cond (eqb c CLOSURE) (below F k a) 0)))
 
+  -- a pattern's term stands just before its first half alone
   unfoldable pub free-word : ℕ → ℕ → ℕ
   free-word s k =
       let c = kind-of (R k) in
-      cond (is-leaf c) (plus (terms R F s k) (D (R k))) (cond (ltb c ATOM) 0 (cond (ltb c NEGATION) (terms R F s k) (operator k (R k))))
+      cond (is-leaf c) (plus (terms R F s k) (D (R k)))
+      (cond (ltb c ATOM) 0 (cond (ltb c NEGATION) (terms R F s k) (cond (eqb c MATCH) (terms R F s k) (operator k (R k)))))
 
 -- the places from s up to n of fr hold the free attributes of the words
 abbrev pub Filled : List ℕ → (ℕ → ℕ) → List ℕ → ℕ → ℕ → Type 0

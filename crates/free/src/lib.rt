@@ -83,6 +83,9 @@ fn free_word(words: &[u64], f: Found, ids: &[u64], fr: &[u64], s: usize, k: usiz
     if c < 14 {
         return terms_before(words, fr, s, k);
     }
+    if c == 23 {
+        return terms_before(words, fr, s, k);
+    }
     operator(words, f, ids, fr, k, w)
 }
 

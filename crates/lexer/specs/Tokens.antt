@@ -4,9 +4,9 @@ use Prim.Native.Nat.{ℕ, suc, _+_, _/_, _%_, _≤_, _<_}
 use lib.Dec.{eqb, ltb}
 use lib.ListN.{length, take, drop, getD}
 use Rattle.definition.specs.Text.{Text, if_then_else_}
-use Rattle.definition.specs.Token.{Sign, equal, unequal, less, at-most, greater, at-least, Terminal, name, string, sign, key, Token}
+use Rattle.definition.specs.Token.{Sign, equal, unequal, less, at-most, greater, at-least, Terminal, name, string, sign, key, AT, Token}
 
--- "identifiers; reserved words; strings in double quotes ..": the kinds 0 to 40 are the definition's keys, then come the six signs, an identifier and a string
+-- "identifiers; reserved words; strings in double quotes ..": the kinds 0 to 40 and 49 are the definition's keys; 41 to 46 are the six signs, then come an identifier and a string
 abbrev pub FIRST-SIGN : ℕ
 FIRST-SIGN = 41
 
@@ -31,6 +31,7 @@ terminal-of k i =
     if ltb k FIRST-SIGN then (key k)
     else if eqb k NAME then (name i)
     else if eqb k STRING then (string i)
+    else if eqb k AT then (key k)
     else (sign (sign-of k))
 
 -- the parts of a word

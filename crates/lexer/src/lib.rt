@@ -70,6 +70,9 @@ pub const NAME: u64 = 47;
 
 pub const STRING: u64 = 48;
 
+// The key of "@".
+pub const AT: u64 = 49;
+
 // What begins at a place of the text: bytes that separate; a token's kind, the length of its text and its own length; or neither.
 enum Segment {
     Gap(usize),
@@ -139,6 +142,7 @@ fn mark_of(x: u8, y: u8, z: u8) -> Segment
         b'=' => Segment::Lexeme(EQUAL, 0, 1),
         b'<' => both_ways(y, z, longer(y, b'=', AT_MOST, Segment::Lexeme(LESS, 0, 1))),
         b'>' => longer(y, b'=', AT_LEAST, Segment::Lexeme(GREATER, 0, 1)),
+        b'@' => Segment::Lexeme(AT, 0, 1),
         _ => Segment::Neither,
     }
 }

@@ -52,6 +52,7 @@ fn tokens() {
     show(b"_ __ _a a_1 TRUEx AVG TO FALSE");
     show(b"\"\" \"a b\t\"\"//\"");
     show(b"(){}[],;:=&|!-><->=!=<<=>>=");
+    show(b"@\"^C\"(x)");
 }
 
 // "The longest token wins."

@@ -10,14 +10,14 @@ use lib.Dec.{T}
 use lib.ListN.{length, getD}
 use Rattle.definition.specs.Text.{Text, same, member}
 use Rattle.definition.specs.Token.{Token, Sign, equal, unequal, less, at-most, greater, at-least}
-use Rattle.definition.specs.Syntax.{Term, Expression, atom, truth, falsity, compare, negation, conjunction, disjunction, implication, equivalence, exists, for-all, closure-of, compare-relations}
+use Rattle.definition.specs.Syntax.{Term, Expression, atom, truth, falsity, compare, matching, negation, conjunction, disjunction, implication, equivalence, exists, for-all, closure-of, compare-relations}
 use Rattle.definition.specs.Names.{free, join, closures}
 use Rattle.definition.specs.Accept.{Accepted, elements}
 use Rattle.definition.proofs.BoolLaws.{or-cases}
 use Rattle.definition.proofs.RelationLaws.{place-of}
-use Rattle.words.specs.Fields.{word, kind-of, p-of, RELATION-NAME, ATTRIBUTE, TERM, ATOM, TRUTH, FALSITY, ORDER, NEGATION, CONJUNCTION, DISJUNCTION, IMPLICATION, EQUIVALENCE, EXISTS, FOR-ALL, CLOSURE, COMPARISON}
+use Rattle.words.specs.Fields.{word, kind-of, p-of, RELATION-NAME, ATTRIBUTE, TERM, ATOM, TRUTH, FALSITY, ORDER, NEGATION, CONJUNCTION, DISJUNCTION, IMPLICATION, EQUIVALENCE, EXISTS, FOR-ALL, CLOSURE, COMPARISON, MATCH}
 use Rattle.words.specs.Raw.{number, sign-number, leaf, leaves, size, over, flat}
-use Rattle.words.specs.Tokens.{OwnName}
+use Rattle.words.specs.Tokens.{OwnName, OwnString}
 use Rattle.words.proofs.FieldLaws.{kind-word, p-word, byte-a, byte-b}
 use Rattle.words.proofs.Sizes.{length-leaves, size-pos}
 use Rattle.digits.specs.Lists.{pack}
@@ -30,12 +30,12 @@ use Rattle.words.specs.Standing.{Has}
 use Rattle.words.proofs.Places.{has-append, Two, has-two, One, has-one}
 use Rattle.meaning.specs.Lowered.{root, closure-count, Lowered}
 use Rattle.meaning.specs.Lowered as Lowered
-use Rattle.lowering.specs.Lowering.{at, slot-of, term-byte, operands-at, closures-before, lower-at, Filled}
-use Rattle.lowering.specs.Agreement.{Known, Scoped, ScopedTerm, ScopedTerms, FreeAt, Agrees}
+use Rattle.lowering.specs.Lowering.{at, Halves, slot-of, term-byte, operands-at, closures-before, lower-at, Filled}
+use Rattle.lowering.specs.Agreement.{Known, Scoped, ScopedTerm, ScopedTerms, FreeAt, Agrees, Halved}
 use Rattle.lowering.proofs.Words.{term-small}
 use Rattle.lowering.proofs.Terms.{slot-byte, attribute-byte, leaf-stands, terms-may, terms-stand}
 use Rattle.lowering.proofs.Masks.{some-join, mask-bit}
-use Rattle.lowering.proofs.Places.{closures-flat, closures-more, kind-at, truth-at, plain-p, plain-q, quantifier-p, atom-p, atom-n, atom-operands, order-p, order-a, order-b, closure-a, closure-b, closure-c, comparison-q, comparison-c, comparison-d, kind-only, leaf-closure}
+use Rattle.lowering.proofs.Places.{closures-flat, closures-more, kind-at, truth-at, plain-p, plain-q, quantifier-p, atom-p, atom-n, atom-operands, order-p, order-a, order-b, half-p, half-set, half-n, closure-a, closure-b, closure-c, comparison-q, comparison-c, comparison-d, kind-only, leaf-closure}
 
 sign-small : (g : Sign) → sign-number g < 6
 sign-small equal = omega arith
@@ -65,9 +65,9 @@ member-join : (x : Text) (xs ys : List Text) → member x (join xs ys) ≡ membe
 unfolding member
 member-join x xs ys = some-join (same x) xs ys
 
-module _ (w : Accepted) (ts : List Token) (loops : List Text) (In : Text → Bool) (β : Text → ℕ) (Clear : ℕ → Type 0) (words codes tokens fr : List ℕ) (lo hi : ℕ)
-    (G : Agrees w ts loops In β Clear words codes fr lo hi) (old low : List ℕ)
-    (filled : Filled (lower-at (at words) (at codes) (at tokens) (at fr) (elements w) lo) lo hi old low) where
+module _ (w : Accepted) (ts : List Token) (loops : List Text) (In : Text → Bool) (β : Text → ℕ) (Clear : ℕ → Type 0) (words codes tokens fr : List ℕ) (H : Halves) (lo hi : ℕ)
+    (G : Agrees w ts loops In β Clear words codes fr lo hi) (M : Halved w ts H) (old low : List ℕ)
+    (filled : Filled (lower-at (at words) (at codes) (at tokens) (at fr) H (elements w) lo) lo hi old low) where
   abbrev pub before : ℕ → ℕ
   before n = closures-before (at words) lo n
 
@@ -77,7 +77,7 @@ module _ (w : Accepted) (ts : List Token) (loops : List Text) (In : Text → Boo
   no-closures [] n l h x i k = absurd (omega arith)
   no-closures (p ∷ ps) n l h x zero k =
       let e : n + 0 ≡ n = omega arith in
-      rw e (leaf-closure words codes tokens fr (elements w) lo hi old low filled n p l (omega arith) (x .0))
+      rw e (leaf-closure words codes tokens fr H (elements w) lo hi old low filled n p l (omega arith) (x .0))
   no-closures (p ∷ ps) n l h x (suc i) k =
       let e : n + suc i ≡ n + 1 + i = omega arith in
       rw e (no-closures ps (n + 1) (omega arith) (omega arith) (x .1) i (omega arith))
@@ -86,7 +86,7 @@ module _ (w : Accepted) (ts : List Token) (loops : List Text) (In : Text → Boo
   name-first : (n K p q m : ℕ) → K < 11 → lo ≤ n → n < hi → getD words n 0 ≡ word K p q 0 → Lowered.Leaves w β loops low (n + 1) m → Lowered.Leaves w β loops low n (m + 1)
   name-first n K p q m hK l h e rest zero k z =
       let a : n + 0 ≡ n = omega arith in
-      let f = kind-only words codes tokens fr (elements w) lo hi old low filled n K p q 0 l h e (omega arith) (λ y. omega arith) in
+      let f = kind-only words codes tokens fr H (elements w) lo hi old low filled n K p q 0 l h e (omega arith) (λ y. omega arith) in
       let g : kind-of (getD low n 0) ≡ CLOSURE = rw a at z in
       omega (arith, f, g)
   name-first n K p q m hK l h e rest (suc i) k z =
@@ -95,6 +95,10 @@ module _ (w : Accepted) (ts : List Token) (loops : List Text) (In : Text → Boo
 
   nothing : (n : ℕ) → Lowered.Leaves w β loops low n 0
   nothing n i k = absurd (omega arith)
+
+  one-term : (n : ℕ) (p : Term) → getD words n 0 ≡ leaf TERM p → Has words n (leaves TERM (p ∷ []))
+  unfolding leaves Has
+  one-term n p a = (a, tt)
 
   two-terms : (n : ℕ) (p q : Term) → getD words n 0 ≡ leaf TERM p → getD words (n + 1) 0 ≡ leaf TERM q → Has words n (leaves TERM (p ∷ q ∷ []))
   unfolding leaves Has
@@ -112,13 +116,13 @@ module _ (w : Accepted) (ts : List Token) (loops : List Text) (In : Text → Boo
       let m : place-of (r .text) (w .relations) % 65536 ≡ place-of (r .text) (w .relations) = omega (arith, K .known, G .few-relations) in
       let v : length ps % 256 ≡ length ps = omega (arith, K .short) in
       record {
-        kind = kind-at words codes tokens fr (elements w) lo hi old low filled k ATOM n (length ps) 0 (omega arith) hn hm hk h e (λ z. omega arith);
-        number = atom-p words codes tokens fr (elements w) lo hi old low filled k ATOM n (length ps) 0 (omega arith) hn hm hk h e refl ∙ rw (d, c) m;
+        kind = kind-at words codes tokens fr H (elements w) lo hi old low filled k ATOM n (length ps) 0 (omega arith) hn hm hk h e (λ z. omega arith);
+        number = atom-p words codes tokens fr H (elements w) lo hi old low filled k ATOM n (length ps) 0 (omega arith) hn hm hk h e refl ∙ rw (d, c) m;
         known = K .known;
         arity = K .arity;
         short = K .short;
-        count = atom-n words codes tokens fr (elements w) lo hi old low filled k ATOM n (length ps) 0 (omega arith) hn hm hk h e refl ∙ v;
-        terms = rw (atom-operands words codes tokens fr (elements w) lo hi old low filled k ATOM n (length ps) 0 (omega arith) hn hm hk h e refl)
+        count = atom-n words codes tokens fr H (elements w) lo hi old low filled k ATOM n (length ps) 0 (omega arith) hn hm hk h e refl ∙ v;
+        terms = rw (atom-operands words codes tokens fr H (elements w) lo hi old low filled k ATOM n (length ps) 0 (omega arith) hn hm hk h e refl)
             (terms-stand w ts loops In β Clear words codes fr lo hi G ps (n + 1) _ (K .short) o y);
       }
 
@@ -130,12 +134,26 @@ module _ (w : Accepted) (ts : List Token) (loops : List Text) (In : Text → Boo
       let t : sign-number g < 65536 = omega (arith, sign-small g) in
       let small = term-small (at words) (at codes) (at tokens) (at fr) 0 in
       record {
-        kind = kind-at words codes tokens fr (elements w) lo hi old low filled (n + 2) ORDER n (sign-number g) 0 (omega arith) s t (omega arith) h e (λ z. omega arith);
-        sign = order-p words codes tokens fr (elements w) lo hi old low filled (n + 2) ORDER n (sign-number g) 0 (omega arith) s t (omega arith) h e refl;
-        left = rw (order-a words codes tokens fr (elements w) lo hi old low filled (n + 2) ORDER n (sign-number g) 0 (omega arith) s t (omega arith) h e refl, byte-a (term-byte (at codes) (getD words n 0)) (term-byte (at codes) (getD words (n + 1) 0)) (term-byte (at codes) (getD words (n + 2) 0)) (term-byte (at codes) (getD words (n + 3) 0)) (small (getD words n 0)))
+        kind = kind-at words codes tokens fr H (elements w) lo hi old low filled (n + 2) ORDER n (sign-number g) 0 (omega arith) s t (omega arith) h e (λ z. omega arith);
+        sign = order-p words codes tokens fr H (elements w) lo hi old low filled (n + 2) ORDER n (sign-number g) 0 (omega arith) s t (omega arith) h e refl;
+        left = rw (order-a words codes tokens fr H (elements w) lo hi old low filled (n + 2) ORDER n (sign-number g) 0 (omega arith) s t (omega arith) h e refl, byte-a (term-byte (at codes) (getD words n 0)) (term-byte (at codes) (getD words (n + 1) 0)) (term-byte (at codes) (getD words (n + 2) 0)) (term-byte (at codes) (getD words (n + 3) 0)) (small (getD words n 0)))
             (leaf-stands w ts loops In β Clear words codes fr lo hi G n p op x);
-        right = rw (order-b words codes tokens fr (elements w) lo hi old low filled (n + 2) ORDER n (sign-number g) 0 (omega arith) s t (omega arith) h e refl, byte-b (term-byte (at codes) (getD words n 0)) (term-byte (at codes) (getD words (n + 1) 0)) (term-byte (at codes) (getD words (n + 2) 0)) (term-byte (at codes) (getD words (n + 3) 0)) (small (getD words n 0)) (small (getD words (n + 1) 0)))
+        right = rw (order-b words codes tokens fr H (elements w) lo hi old low filled (n + 2) ORDER n (sign-number g) 0 (omega arith) s t (omega arith) h e refl, byte-b (term-byte (at codes) (getD words n 0)) (term-byte (at codes) (getD words (n + 1) 0)) (term-byte (at codes) (getD words (n + 2) 0)) (term-byte (at codes) (getD words (n + 3) 0)) (small (getD words n 0)) (small (getD words (n + 1) 0)))
             (leaf-stands w ts loops In β Clear words codes fr lo hi G (n + 1) q oq y);
+      }
+
+  -- a half's word at k, whose term stands at n
+  half-word : (s : Token) (p : Term) (n k b : ℕ) → b < 65536 → n < k → lo ≤ n → k < hi → OwnString ts s → ScopedTerm w ts loops In p → getD words n 0 ≡ leaf TERM p → getD words k 0 ≡ word MATCH (number s) b n
+      → Lowered.Half w β loops low k b s p
+  half-word s p n k b hb ln l h os op x e =
+      let hn : n < 65536 = omega (arith, G .few-words) in
+      let hs : number s < 65536 = omega (arith, os .inside, G .few-tokens) in
+      record {
+        kind = kind-at words codes tokens fr H (elements w) lo hi old low filled k MATCH (number s) b n (omega arith) hs hb (omega arith) h e (λ z. omega arith);
+        first = half-p words codes tokens fr H (elements w) lo hi old low filled k MATCH (number s) b n (omega arith) hs hb (omega arith) h e refl;
+        set = λ i j m. rw (half-set words codes tokens fr H (elements w) lo hi old low filled k MATCH (number s) b n (omega arith) hs hb (omega arith) h e refl) (M .set s os b i j m);
+        few = G .few-elements;
+        term = rw (half-n words codes tokens fr H (elements w) lo hi old low filled k MATCH (number s) b n (omega arith) hs hb (omega arith) h e refl hn) (leaf-stands w ts loops In β Clear words codes fr lo hi G n p op x);
       }
 
   -- closures before a place: a name is none, and a closure is the last of at most sixteen
@@ -159,8 +177,8 @@ module _ (w : Accepted) (ts : List Token) (loops : List Text) (In : Text → Boo
     one-word K a b x y e =
         let s : p < 65536 = omega (arith, G .few-words) in
         record {
-          kind = kind-at words codes tokens fr (elements w) lo hi old low filled k K p 0 0 (omega arith) s (omega arith) l h e (λ z. omega arith);
-          child = plain-p words codes tokens fr (elements w) lo hi old low filled k K p 0 0 (omega arith) s (omega arith) l h e a b x y;
+          kind = kind-at words codes tokens fr H (elements w) lo hi old low filled k K p 0 0 (omega arith) s (omega arith) l h e (λ z. omega arith);
+          child = plain-p words codes tokens fr H (elements w) lo hi old low filled k K p 0 0 (omega arith) s (omega arith) l h e a b x y;
         }
 
     two-word : (K : ℕ) → 15 ≤ K → K < 19 → q < k → getD words k 0 ≡ word K p q 0 → Lowered.Two w β loops low k K p q
@@ -168,9 +186,9 @@ module _ (w : Accepted) (ts : List Token) (loops : List Text) (In : Text → Boo
         let s : p < 65536 = omega (arith, G .few-words) in
         let t : q < 65536 = omega (arith, G .few-words) in
         record {
-          kind = kind-at words codes tokens fr (elements w) lo hi old low filled k K p q 0 (omega arith) s t l h e (λ z. omega arith);
-          first = plain-p words codes tokens fr (elements w) lo hi old low filled k K p q 0 (omega arith) s t l h e (omega arith) (omega arith) (λ z. omega arith) (λ z. omega arith);
-          second = plain-q words codes tokens fr (elements w) lo hi old low filled k K p q 0 (omega arith) s t l h e (omega arith) (omega arith);
+          kind = kind-at words codes tokens fr H (elements w) lo hi old low filled k K p q 0 (omega arith) s t l h e (λ z. omega arith);
+          first = plain-p words codes tokens fr H (elements w) lo hi old low filled k K p q 0 (omega arith) s t l h e (omega arith) (omega arith) (λ z. omega arith) (λ z. omega arith);
+          second = plain-q words codes tokens fr H (elements w) lo hi old low filled k K p q 0 (omega arith) s t l h e (omega arith) (omega arith);
         }
 
     quantifier-word : (K : ℕ) (x : Token) → 19 ≤ K → K < 21 → q < k → OwnName ts x → In (x .text) ≡ true → getD words p 0 ≡ word ATTRIBUTE (number x) 0 0 → getD words k 0 ≡ word K p q 0 → Lowered.Quantifier w β loops low k K q x
@@ -178,13 +196,13 @@ module _ (w : Accepted) (ts : List Token) (loops : List Text) (In : Text → Boo
         let s : p < 65536 = omega (arith, G .few-words) in
         let t : q < 65536 = omega (arith, G .few-words) in
         let y = attribute-byte w ts loops In β Clear words codes fr lo hi G p ATTRIBUTE x (omega arith) (λ z. omega arith) o i v in
-        let c = quantifier-p words codes tokens fr (elements w) lo hi old low filled k K p q 0 (omega arith) s t l h e a b in
+        let c = quantifier-p words codes tokens fr H (elements w) lo hi old low filled k K p q 0 (omega arith) s t l h e a b in
         let g = G .slots (x .text) i in
         let m : β (x .text) - 64 ≡ β (x .text) % 8 % 8 = omega (arith, g .0, g .1) in
         record {
-          kind = kind-at words codes tokens fr (elements w) lo hi old low filled k K p q 0 (omega arith) s t l h e (λ z. omega arith);
+          kind = kind-at words codes tokens fr H (elements w) lo hi old low filled k K p q 0 (omega arith) s t l h e (λ z. omega arith);
           place = slot-byte (β (x .text)) (g .0) (omega (arith, g .1)) ∙ ap slot m ∙ rw (c, y) refl;
-          child = plain-q words codes tokens fr (elements w) lo hi old low filled k K p q 0 (omega arith) s t l h e (omega arith) (omega arith);
+          child = plain-q words codes tokens fr H (elements w) lo hi old low filled k K p q 0 (omega arith) s t l h e (omega arith) (omega arith);
         }
 
   -- the slots of two attributes
@@ -242,9 +260,9 @@ module _ (w : Accepted) (ts : List Token) (loops : List Text) (In : Text → Boo
       let f : before k < 16 = few-before k (n + size a - 1) (omega arith) h e in
       record {
         one = one-word n k (root a n) 0 (omega (arith, size-pos a)) (omega arith) h CLOSURE (omega arith) (omega arith) (λ z. omega arith) (λ z. omega arith) e;
-        slots = rw (closure-a words codes tokens fr (elements w) lo hi old low filled k CLOSURE (n + size a - 1) 0 0 (omega arith) s (omega arith) (omega arith) h e refl, closure-b words codes tokens fr (elements w) lo hi old low filled k CLOSURE (n + size a - 1) 0 0 (omega arith) s (omega arith) (omega arith) h e refl)
+        slots = rw (closure-a words codes tokens fr H (elements w) lo hi old low filled k CLOSURE (n + size a - 1) 0 0 (omega arith) s (omega arith) (omega arith) h e refl, closure-b words codes tokens fr H (elements w) lo hi old low filled k CLOSURE (n + size a - 1) 0 0 (omega arith) s (omega arith) (omega arith) h e refl)
             (two-slots (free (w .variables) a) (getD fr (n + size a - 1) 0) two (A .listed) (A .value));
-        number = closure-c words codes tokens fr (elements w) lo hi old low filled k CLOSURE (n + size a - 1) 0 0 (omega arith) s (omega arith) (omega arith) h e refl (omega arith) ∙ sym b;
+        number = closure-c words codes tokens fr H (elements w) lo hi old low filled k CLOSURE (n + size a - 1) 0 0 (omega arith) s (omega arith) (omega arith) h e refl (omega arith) ∙ sym b;
         few = omega (arith, b, f);
       }
 
@@ -256,14 +274,14 @@ module _ (w : Accepted) (ts : List Token) (loops : List Text) (In : Text → Boo
       let s : n + size a - 1 < 65536 = omega (arith, G .few-words) in
       let t : n + size a + size b - 1 < 65536 = omega (arith, G .few-words) in
       let r : sign-number g < 256 = omega (arith, sign-small g) in
-      let d = comparison-d words codes tokens fr (elements w) lo hi old low filled k COMPARISON (n + size a - 1) (n + size a + size b - 1) (sign-number g) (omega arith) s t (omega arith) h e refl r in
+      let d = comparison-d words codes tokens fr H (elements w) lo hi old low filled k COMPARISON (n + size a - 1) (n + size a + size b - 1) (sign-number g) (omega arith) s t (omega arith) h e refl r in
       record {
         two = record {
-          kind = kind-at words codes tokens fr (elements w) lo hi old low filled k COMPARISON (n + size a - 1) (n + size a + size b - 1) (sign-number g) (omega arith) s t (omega arith) h e (λ z. omega arith);
-          first = plain-p words codes tokens fr (elements w) lo hi old low filled k COMPARISON (n + size a - 1) (n + size a + size b - 1) (sign-number g) (omega arith) s t (omega arith) h e (omega arith) (omega arith) (λ z. omega arith) (λ z. omega arith);
-          second = comparison-q words codes tokens fr (elements w) lo hi old low filled k COMPARISON (n + size a - 1) (n + size a + size b - 1) (sign-number g) (omega arith) s t (omega arith) h e refl r;
+          kind = kind-at words codes tokens fr H (elements w) lo hi old low filled k COMPARISON (n + size a - 1) (n + size a + size b - 1) (sign-number g) (omega arith) s t (omega arith) h e (λ z. omega arith);
+          first = plain-p words codes tokens fr H (elements w) lo hi old low filled k COMPARISON (n + size a - 1) (n + size a + size b - 1) (sign-number g) (omega arith) s t (omega arith) h e (omega arith) (omega arith) (λ z. omega arith) (λ z. omega arith);
+          second = comparison-q words codes tokens fr H (elements w) lo hi old low filled k COMPARISON (n + size a - 1) (n + size a + size b - 1) (sign-number g) (omega arith) s t (omega arith) h e refl r;
         };
-        sign = comparison-c words codes tokens fr (elements w) lo hi old low filled k COMPARISON (n + size a - 1) (n + size a + size b - 1) (sign-number g) (omega arith) s t (omega arith) h e refl r;
+        sign = comparison-c words codes tokens fr H (elements w) lo hi old low filled k COMPARISON (n + size a - 1) (n + size a + size b - 1) (sign-number g) (omega arith) s t (omega arith) h e refl r;
         slots = λ x m. slot-in x (joined-in x (A .inside x) (B .inside x) m);
         mask = λ i j. rw (d, A .value, B .value) (mask-bit β (free (w .variables) a) (free (w .variables) b) (A .listed) (B .listed) i j);
       }
@@ -288,18 +306,31 @@ module _ (w : Accepted) (ts : List Token) (loops : List Text) (In : Text → Boo
       let e : getD words (n + length ps) 0 ≡ word TRUTH n (length ps) 0 = rw (length-leaves TERM ps) at (t .1 .0) in (
         no-closures ps n l (omega arith) (t .0),
         record {
-          kind = truth-at words codes tokens fr (elements w) lo hi old low filled (n + length ps) TRUTH n (length ps) 0 (omega arith) (omega (arith, G .few-words)) (omega (arith, G .few-words)) (omega arith) (omega arith) e refl
+          kind = truth-at words codes tokens fr H (elements w) lo hi old low filled (n + length ps) TRUTH n (length ps) 0 (omega arith) (omega (arith, G .few-words)) (omega (arith, G .few-words)) (omega arith) (omega arith) e refl
               ∙ rw (terms-may w ts loops In β Clear words codes fr lo hi G ps n o (t .0)) refl;
         },
       )
   lowered-expression (falsity ps) n c ec o l h cl x =
       let t = has-append words n (leaves TERM ps) _ x in
       let e : getD words (n + length ps) 0 ≡ word FALSITY n (length ps) 0 = rw (length-leaves TERM ps) at (t .1 .0) in
-      (no-closures ps n l (omega arith) (t .0), kind-only words codes tokens fr (elements w) lo hi old low filled (n + length ps) FALSITY n (length ps) 0 (omega arith) (omega arith) e (omega arith) (λ z. omega arith))
+      (no-closures ps n l (omega arith) (t .0), kind-only words codes tokens fr H (elements w) lo hi old low filled (n + length ps) FALSITY n (length ps) 0 (omega arith) (omega arith) e (omega arith) (λ z. omega arith))
   lowered-expression (compare g p q) n c ec o l h cl x =
       let i : n + 1 + 1 ≡ n + 2 = omega arith in
       let e : getD words (n + 2) 0 ≡ word ORDER n (sign-number g) 0 = rw i at (x .1 .1 .0) in
       (no-closures (p ∷ q ∷ []) n l (omega arith) (two-terms n p q (x .0) (x .1 .0)), order-word g p q n l (omega arith) (o .0) (o .1) (x .0) (x .1 .0) e)
+  lowered-expression (matching s p) n c ec o l h cl x =
+      let i : n + 1 + 1 ≡ n + 2 = omega arith in
+      let j : n + 1 + 1 + 1 ≡ n + 3 = omega arith in
+      let r : n + 2 - 1 ≡ n + 1 = omega arith in
+      let t : n + 3 - 1 ≡ n + 2 = omega arith in
+      let e : getD words (n + 2) 0 ≡ word MATCH (number s) 32 n = rw i at (x .1 .1 .0) in
+      let d : getD words (n + 3) 0 ≡ word DISJUNCTION (n + 1) (n + 2) 0 = rw (j, r, t) at (x .1 .1 .1 .0) in (
+        no-closures (p ∷ []) n l (omega arith) (one-term n p (x .0)),
+        (
+          half-word s p n (n + 1) 0 (omega arith) (omega arith) l (omega arith) (o .0) (o .1) (x .0) (x .1 .0),
+          (half-word s p n (n + 2) 32 (omega arith) (omega arith) l (omega arith) (o .0) (o .1) (x .0) e, two-word n (n + 3) (n + 1) (n + 2) (omega arith) (omega arith) (omega arith) DISJUNCTION (omega arith) (omega arith) (omega arith) d),
+        ),
+      )
   lowered-expression (negation a) n c ec o l h cl x =
       let t = has-one words n _ a x in (
         lowered-expression a n c ec o l (omega arith) cl (t .inner),

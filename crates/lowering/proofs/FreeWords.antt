@@ -9,7 +9,7 @@ use lib.Dec.{T}
 use lib.ListN.{length}
 use Rattle.definition.specs.Text.{Text, same, member, some-of}
 use Rattle.definition.specs.Token.{Token}
-use Rattle.definition.specs.Syntax.{Term, name, string, anything, Expression, atom, truth, falsity, compare, negation, conjunction, disjunction, implication, equivalence, exists, for-all, closure-of, compare-relations}
+use Rattle.definition.specs.Syntax.{Term, name, string, anything, Expression, atom, truth, falsity, compare, matching, negation, conjunction, disjunction, implication, equivalence, exists, for-all, closure-of, compare-relations}
 use Rattle.definition.specs.Names.{Use, term, in-terms, in-expression, free}
 use Rattle.definition.specs.Accept.{Accepted}
 use Rattle.definition.proofs.BoolLaws.{or-cases}
@@ -46,6 +46,7 @@ module _ (w : Accepted) (ts : List Token) (loops : List Text) (names : List Text
   own (truth ps) o = own-terms ps o
   own (falsity ps) o = own-terms ps o
   own (compare g p q) o = own-terms (p ∷ q ∷ []) (o .0, (o .1, tt))
+  own (matching s p) o = (o .0, own-terms (p ∷ []) (o .1, tt))
   own (negation e) o = own e o
   own (conjunction a b) o = (own a (o .0), own b (o .1))
   own (disjunction a b) o = (own a (o .0), own b (o .1))
@@ -81,6 +82,7 @@ module _ (w : Accepted) (ts : List Token) (loops : List Text) (names : List Text
   covered (truth ps) o = cover-terms ps o
   covered (falsity ps) o = cover-terms ps o
   covered (compare g p q) o = cover-terms (p ∷ q ∷ []) (o .0, (o .1, tt))
+  covered (matching s p) o = cover-terms (p ∷ []) (o .1, tt)
   covered (negation e) o = covered e o
   covered (conjunction a b) o = cover-append (in-expression a) (in-expression b) (covered a (o .0)) (covered b (o .1))
   covered (disjunction a b) o = cover-append (in-expression a) (in-expression b) (covered a (o .0)) (covered b (o .1))

@@ -8,8 +8,8 @@ use borrow.Author.Tests.{ne-eqb, eqb-true, eqb-false}
 use lib.Dec.{eqb}
 use lib.ListN.{length, getD}
 use Rattle.definition.specs.Text.{Text}
-use Rattle.definition.specs.Syntax.{Term, name, string, anything, Expression, atom, truth, falsity, compare, negation, conjunction, disjunction, implication, equivalence, exists, for-all, closure-of, compare-relations}
-use Rattle.words.specs.Fields.{word, kind-of, p-of, q-of, RELATION-NAME, ATTRIBUTE, TERM, ANYTHING, ATOM, TRUTH, FALSITY, ORDER, NEGATION, CONJUNCTION, DISJUNCTION, IMPLICATION, EQUIVALENCE, EXISTS, FOR-ALL, CLOSURE, COMPARISON, ROWS, SAY, LINE-END, STRING}
+use Rattle.definition.specs.Syntax.{Term, name, string, anything, Expression, atom, truth, falsity, compare, matching, negation, conjunction, disjunction, implication, equivalence, exists, for-all, closure-of, compare-relations}
+use Rattle.words.specs.Fields.{word, kind-of, p-of, q-of, RELATION-NAME, ATTRIBUTE, TERM, ANYTHING, ATOM, TRUTH, FALSITY, ORDER, NEGATION, CONJUNCTION, DISJUNCTION, IMPLICATION, EQUIVALENCE, EXISTS, FOR-ALL, CLOSURE, COMPARISON, MATCH, ROWS, SAY, LINE-END, STRING}
 use Rattle.words.specs.Raw.{number, sign-number, leaves, size, flat}
 use Rattle.words.proofs.FieldLaws.{kind-word, byte-a, byte-b, byte-c, byte-d}
 use Rattle.digits.specs.Lists.{pack}
@@ -18,7 +18,7 @@ use Rattle.eval.specs.Nodes.{a-of, b-of, c-of, d-of, n-of}
 use Rattle.words.specs.Standing.{Has}
 use Rattle.prints.specs.Items.{columns-of}
 use Rattle.prints.specs.Lowered.{is-item}
-use Rattle.lowering.specs.Lowering.{at, four-bytes, slot-of, slots-of, all-stand, kind-field, lower-at, Filled}
+use Rattle.lowering.specs.Lowering.{at, Halves, four-bytes, slot-of, slots-of, all-stand, kind-field, lower-at, Filled}
 use Rattle.lowering.proofs.Places.{kind-field-at}
 
 -- the columns of up to four attributes
@@ -127,6 +127,10 @@ quiet-flat (atom r ps) n = quiet-first RELATION-NAME _ _ 0 _ (omega arith) (quie
 quiet-flat (truth ps) n = quiet-append (leaves TERM ps) _ (quiet-leaves TERM ps (omega arith)) (quiet-one TRUTH _ _ 0 (omega arith))
 quiet-flat (falsity ps) n = quiet-append (leaves TERM ps) _ (quiet-leaves TERM ps (omega arith)) (quiet-one FALSITY _ _ 0 (omega arith))
 quiet-flat (compare g p q) n = unfold leaves in quiet-append (leaves TERM (p ∷ q ∷ [])) _ (quiet-leaves TERM (p ∷ q ∷ []) (omega arith)) (quiet-one ORDER _ _ 0 (omega arith))
+quiet-flat (matching s p) n =
+    unfold leaves in
+    quiet-append (leaves TERM (p ∷ [])) _ (quiet-leaves TERM (p ∷ []) (omega arith))
+    (quiet-first MATCH (number s) 0 n _ (omega arith) (quiet-first MATCH (number s) 32 n _ (omega arith) (quiet-one DISJUNCTION _ _ 0 (omega arith))))
 quiet-flat (negation e) n = quiet-append (flat e n) _ (quiet-flat e n) (quiet-one NEGATION _ 0 0 (omega arith))
 quiet-flat (conjunction a b) n = quiet-two _ _ CONJUNCTION _ _ 0 (omega arith) (quiet-flat a n) (quiet-flat b (n + size a))
 quiet-flat (disjunction a b) n = quiet-two _ _ DISJUNCTION _ _ 0 (omega arith) (quiet-flat a n) (quiet-flat b (n + size a))
@@ -138,10 +142,10 @@ quiet-flat (closure-of e) n = quiet-append (flat e n) _ (quiet-flat e n) (quiet-
 quiet-flat (compare-relations g a b) n = quiet-two _ _ COMPARISON _ _ (sign-number g) (omega arith) (quiet-flat a n) (quiet-flat b (n + size a))
 
 -- lowered, they still print nothing
-module _ (words codes tokens fr : List ℕ) (u lo hi : ℕ) (old low : List ℕ) (filled : Filled (lower-at (at words) (at codes) (at tokens) (at fr) u lo) lo hi old low) where
+module _ (words codes tokens fr : List ℕ) (H : Halves) (u lo hi : ℕ) (old low : List ℕ) (filled : Filled (lower-at (at words) (at codes) (at tokens) (at fr) H u lo) lo hi old low) where
   still-quiet : (j : ℕ) → lo ≤ j → j < hi → is-item (kind-of (getD words j 0)) ≡ false → is-item (kind-of (getD low j 0)) ≡ false
   unfolding kind-field
-  still-quiet j l h e = rw (kind-field-at words codes tokens fr u lo hi old low filled j l h) (go (eqb (kind-of (getD words j 0)) 11) (all-stand (at words) (at codes) u (q-of (getD words j 0)) (p-of (getD words j 0))))
+  still-quiet j l h e = rw (kind-field-at words codes tokens fr H u lo hi old low filled j l h) (go (eqb (kind-of (getD words j 0)) 11) (all-stand (at words) (at codes) u (q-of (getD words j 0)) (p-of (getD words j 0))))
     where
       go : (a b : Bool) → is-item (cond a (cond b TRUTH FALSITY) (kind-of (getD words j 0))) ≡ false
       go true true = refl

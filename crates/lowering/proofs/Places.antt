@@ -13,14 +13,14 @@ use Rattle.words.specs.Fields.{word, kind-of, p-of, q-of, CLOSURE, TERM, ANYTHI
 use Rattle.words.specs.Raw.{number, leaf, size, flat}
 use Rattle.words.proofs.FieldLaws.{kind-word, p-word, q-word, r-word}
 use Rattle.words.proofs.Sizes.{length-flat}
-use Rattle.eval.specs.Nodes.{a-of, b-of, c-of, d-of, n-of, operands-of}
+use Rattle.eval.specs.Nodes.{a-of, b-of, c-of, d-of, n-of, operands-of, half-of}
 use Rattle.intern.specs.Entries.{start-of}
 use Rattle.digits.specs.Packed.{count}
 use Rattle.slots.specs.Slots.{one-closure, closure-count}
 use Rattle.slots.proofs.ClosureCount.{count-expression}
 use Rattle.words.specs.Standing.{Has}
-use Rattle.lowering.specs.Lowering.{at, lowered, slot-of, slots-of, mask, label-place, depth-of, term-byte, operands-at, all-stand, closure-field, comparison-field, range-field, kind-field, node-p, p-field, operand-field, count-field, closures-before, lower-word, lower-at, Filled}
-use Rattle.lowering.proofs.Words.{kind-lowered, p-lowered, q-lowered, operands-lowered, a-lowered, b-lowered, c-lowered, d-lowered, n-lowered, kind-small, p-small, operand-small, count-field-small}
+use Rattle.lowering.specs.Lowering.{at, Halves, lowered, slot-of, slots-of, mask, label-place, depth-of, term-byte, operands-at, all-stand, closure-field, comparison-field, range-field, kind-field, node-p, p-field, operand-field, count-field, closures-before, lower-word, lower-at, Filled}
+use Rattle.lowering.proofs.Words.{kind-lowered, p-lowered, q-lowered, operands-lowered, half-lowered, a-lowered, b-lowered, c-lowered, d-lowered, n-lowered, kind-small, p-small, operand-small, count-field-small}
 
 -- closures counted over words that stand from n on
 module _ (words : List ℕ) (lo : ℕ) where
@@ -43,7 +43,7 @@ module _ (words : List ℕ) (lo : ℕ) where
   closures-more zero k = let e : 0 + k ≡ k = omega arith in rw e (omega arith)
   closures-more (suc m) k = let e : suc m + k ≡ suc (m + k) = omega arith in rw e (omega (arith, closures-more m k))
 
-module _ (words codes tokens fr : List ℕ) (u lo hi : ℕ) (old low : List ℕ) (filled : Filled (lower-at (at words) (at codes) (at tokens) (at fr) u lo) lo hi old low) where
+module _ (words codes tokens fr : List ℕ) (H : Halves) (u lo hi : ℕ) (old low : List ℕ) (filled : Filled (lower-at (at words) (at codes) (at tokens) (at fr) H u lo) lo hi old low) where
   module _ (k K p q r : ℕ) (hK : K < 256) (hp : p < 65536) (hq : q < 65536) (l : lo ≤ k) (h : k < hi) (e : getD words k 0 ≡ word K p q r) where
     abbrev kk : ℕ
     kk = kind-field (at words) (at codes) u (getD words k 0)
@@ -52,10 +52,10 @@ module _ (words codes tokens fr : List ℕ) (u lo hi : ℕ) (old low : List ℕ)
     pp = p-field (at words) (at codes) (at tokens) (getD words k 0)
 
     abbrev oo : ℕ
-    oo = operand-field (at words) (at codes) (at tokens) (at fr) (closures-before (at words) lo k) k (getD words k 0)
+    oo = operand-field (at words) (at codes) (at tokens) (at fr) H (closures-before (at words) lo k) k (getD words k 0)
 
     abbrev nn : ℕ
-    nn = count-field (at fr) k (getD words k 0)
+    nn = count-field (at words) (at codes) (at fr) k (getD words k 0)
 
     cell : getD low k 0 ≡ lowered kk pp oo nn
     unfolding lower-at lower-word
@@ -68,7 +68,7 @@ module _ (words codes tokens fr : List ℕ) (u lo hi : ℕ) (old low : List ℕ)
     ps = p-small (at words) (at codes) (at tokens) (at fr) u (getD words k 0)
 
     os : oo < 4294967296
-    os = operand-small (at words) (at codes) (at tokens) (at fr) u (closures-before (at words) lo k) k (getD words k 0)
+    os = operand-small (at words) (at codes) (at tokens) (at fr) u H (closures-before (at words) lo k) k (getD words k 0)
 
     ns : nn < 256
     ns = count-field-small (at words) (at codes) (at tokens) (at fr) u k (getD words k 0)
@@ -81,6 +81,9 @@ module _ (words codes tokens fr : List ℕ) (u lo hi : ℕ) (old low : List ℕ)
 
     operands-cell : operands-of (getD low k 0) ≡ oo + nn * 4294967296
     operands-cell = rw cell (operands-lowered kk pp oo nn ks ps os ns)
+
+    half-cell : half-of (getD low k 0) ≡ oo
+    half-cell = rw cell (half-lowered kk pp oo nn ks ps os ns)
 
     q-cell : q-of (getD low k 0) ≡ oo % 65536
     q-cell = rw cell (q-lowered kk pp oo nn ks ps os ns)
@@ -114,12 +117,12 @@ module _ (words codes tokens fr : List ℕ) (u lo hi : ℕ) (old low : List ℕ)
     unfolding p-field node-p
     plain-p a b x y =
         p-cell
-        ∙ rw (e, kind-word K p q r hK, p-word K p q r hK hp, le-ltb K 4 (omega arith), le-ltb K 8 (omega arith), ne-eqb K 9 (λ z. omega arith), lt-ltb K 42 (omega arith), ne-eqb K 10 (λ z. omega arith), ne-eqb K 33 (λ z. omega arith), ne-eqb K 13 (λ z. omega arith), ne-eqb K 19 x, ne-eqb K 20 y, ne-eqb K 30 (λ z. omega arith)) refl
+        ∙ rw (e, kind-word K p q r hK, p-word K p q r hK hp, le-ltb K 4 (omega arith), le-ltb K 8 (omega arith), ne-eqb K 9 (λ z. omega arith), lt-ltb K 42 (omega arith), ne-eqb K 10 (λ z. omega arith), ne-eqb K 33 (λ z. omega arith), ne-eqb K 13 (λ z. omega arith), ne-eqb K 23 (λ z. omega arith), ne-eqb K 19 x, ne-eqb K 20 y, ne-eqb K 30 (λ z. omega arith)) refl
 
     plain-o : 14 ≤ K → K < 21 → oo ≡ q
     unfolding operand-field
     plain-o a b =
-        rw (e, kind-word K p q r hK, q-word K p q r hK hp hq, ne-eqb K 6 (λ z. omega arith), ne-eqb K 10 (λ z. omega arith), ne-eqb K 33 (λ z. omega arith), ne-eqb K 13 (λ z. omega arith), ne-eqb K 21 (λ z. omega arith), ne-eqb K 22 (λ z. omega arith), ne-eqb K 30 (λ z. omega arith), ne-eqb K 44 (λ z. omega arith)) refl
+        rw (e, kind-word K p q r hK, q-word K p q r hK hp hq, ne-eqb K 6 (λ z. omega arith), ne-eqb K 10 (λ z. omega arith), ne-eqb K 33 (λ z. omega arith), ne-eqb K 13 (λ z. omega arith), ne-eqb K 21 (λ z. omega arith), ne-eqb K 22 (λ z. omega arith), ne-eqb K 23 (λ z. omega arith), ne-eqb K 30 (λ z. omega arith), ne-eqb K 44 (λ z. omega arith)) refl
 
     pub plain-q : 14 ≤ K → K < 21 → q-of (getD low k 0) ≡ q
     plain-q a b = let m : q % 65536 ≡ q = omega arith in q-cell ∙ rw (plain-o a b) m
@@ -131,7 +134,7 @@ module _ (words codes tokens fr : List ℕ) (u lo hi : ℕ) (old low : List ℕ)
       where
         go : (J : ℕ) → 19 ≤ J → J < 21 → getD words k 0 ≡ word J p q r → J < 256 → pp ≡ term-byte (at codes) (getD words p 0) % 8
         go J x y f hJ =
-            rw (f, kind-word J p q r hJ, p-word J p q r hJ hp, le-ltb J 4 (omega arith), le-ltb J 8 (omega arith), ne-eqb J 9 (λ z. omega arith), lt-ltb J 42 (omega arith), ne-eqb J 10 (λ z. omega arith), ne-eqb J 33 (λ z. omega arith), ne-eqb J 13 (λ z. omega arith), ne-eqb J 30 (λ z. omega arith))
+            rw (f, kind-word J p q r hJ, p-word J p q r hJ hp, le-ltb J 4 (omega arith), le-ltb J 8 (omega arith), ne-eqb J 9 (λ z. omega arith), lt-ltb J 42 (omega arith), ne-eqb J 10 (λ z. omega arith), ne-eqb J 33 (λ z. omega arith), ne-eqb J 13 (λ z. omega arith), ne-eqb J 23 (λ z. omega arith), ne-eqb J 30 (λ z. omega arith))
             (last (eqb J 19) refl)
           where
             last : (t : Bool) → eqb J 19 ≡ t → cond t (term-byte (at codes) (getD words p 0) % 8) (cond (eqb J 20) (term-byte (at codes) (getD words p 0) % 8) p) ≡ term-byte (at codes) (getD words p 0) % 8
@@ -168,6 +171,23 @@ module _ (words codes tokens fr : List ℕ) (u lo hi : ℕ) (old low : List ℕ)
 
     pub order-b : K ≡ 13 → b-of (getD low k 0) ≡ operands-at (at words) (at codes) p / 256 % 256
     order-b z = b-cell ∙ rw (order-o z) refl
+
+    -- a half has its first element, its set and its operand
+    module _ (z : K ≡ 23) where
+      pub half-p : p-of (getD low k 0) ≡ q
+      unfolding p-field node-p
+      half-p = p-cell ∙ rw (e, kind-word K p q r hK, q-word K p q r hK hp hq, z) refl
+
+      half-o : oo ≡ H p q % 4294967296
+      unfolding operand-field
+      half-o = rw (e, kind-word K p q r hK, p-word K p q r hK hp, q-word K p q r hK hp hq, z) refl
+
+      pub half-set : half-of (getD low k 0) ≡ H p q % 4294967296
+      half-set = half-cell ∙ half-o
+
+      pub half-n : r < 65536 → n-of (getD low k 0) ≡ term-byte (at codes) (getD words r 0)
+      unfolding count-field
+      half-n hr = n-cell ∙ rw (e, kind-word K p q r hK, r-word K p q r hK hp hq hr, z) refl
 
     -- a closure has its slots and its number
     closure-o : K ≡ 21 → oo ≡ closure-field (getD fr p 0) (closures-before (at words) lo k)
@@ -249,7 +269,7 @@ module _ (words codes tokens fr : List ℕ) (u lo hi : ℕ) (old low : List ℕ)
     target-o : 34 ≤ K → K < 38 → oo ≡ q
     unfolding operand-field
     target-o a b =
-        rw (e, kind-word K p q r hK, q-word K p q r hK hp hq, ne-eqb K 6 (λ z. omega arith), ne-eqb K 10 (λ z. omega arith), ne-eqb K 33 (λ z. omega arith), ne-eqb K 13 (λ z. omega arith), ne-eqb K 21 (λ z. omega arith), ne-eqb K 22 (λ z. omega arith), ne-eqb K 30 (λ z. omega arith), ne-eqb K 44 (λ z. omega arith)) refl
+        rw (e, kind-word K p q r hK, q-word K p q r hK hp hq, ne-eqb K 6 (λ z. omega arith), ne-eqb K 10 (λ z. omega arith), ne-eqb K 33 (λ z. omega arith), ne-eqb K 13 (λ z. omega arith), ne-eqb K 21 (λ z. omega arith), ne-eqb K 22 (λ z. omega arith), ne-eqb K 23 (λ z. omega arith), ne-eqb K 30 (λ z. omega arith), ne-eqb K 44 (λ z. omega arith)) refl
 
     pub target-q : 34 ≤ K → K < 38 → q-of (getD low k 0) ≡ q
     target-q a b = let m : q % 65536 ≡ q = omega arith in q-cell ∙ rw (target-o a b) m
@@ -308,7 +328,7 @@ module _ (words codes tokens fr : List ℕ) (u lo hi : ℕ) (old low : List ℕ)
   kind-field-at k l h =
       rw (filled .inside k l h)
       (kind-lowered _ _ _ _ (kind-small (at words) (at codes) (at tokens) (at fr) u (getD words k 0)) (p-small (at words) (at codes) (at tokens) (at fr) u (getD words k 0))
-      (operand-small (at words) (at codes) (at tokens) (at fr) u (closures-before (at words) lo k) k (getD words k 0)) (count-field-small (at words) (at codes) (at tokens) (at fr) u k (getD words k 0)))
+      (operand-small (at words) (at codes) (at tokens) (at fr) u H (closures-before (at words) lo k) k (getD words k 0)) (count-field-small (at words) (at codes) (at tokens) (at fr) u k (getD words k 0)))
 
   pub kind-only : (k K p q r : ℕ) → lo ≤ k → k < hi → getD words k 0 ≡ word K p q r → K < 256 → (K ≡ 11 → ⊥) → kind-of (getD low k 0) ≡ K
   unfolding kind-field

@@ -24,8 +24,8 @@ use Rattle.free.specs.Words.{is-leaf}
 use Rattle.words.specs.Standing.{Has}
 use Rattle.words.proofs.Places.{has-append, has-one}
 use Rattle.prints.specs.Lowered.{is-item, item-closures, Leaf, by-variable, by-string, Label, no-label, one-label, RowsLowered, ItemLowered, lowered-rows, lowered-word, lowered-end, ItemsLowered, none, more, PrintLowered}
-use Rattle.lowering.specs.Lowering.{at, label-place, lower-at, Filled}
-use Rattle.lowering.specs.Agreement.{Scoped, ScopedWord, ScopedLabel, ScopedItem, ScopedItems, FreeAt, Agrees, Spelled}
+use Rattle.lowering.specs.Lowering.{at, Halves, label-place, lower-at, Filled}
+use Rattle.lowering.specs.Agreement.{Scoped, ScopedWord, ScopedLabel, ScopedItem, ScopedItems, FreeAt, Agrees, Spelled, Halved}
 use Rattle.lowering.proofs.Filling.{none-before}
 use Rattle.lowering.proofs.Terms.{slot-byte}
 use Rattle.lowering.proofs.Places.{kind-only, kind-at, rows-p, rows-n, rows-a, rows-b, rows-c, rows-d, variable-p, string-p, string-q, print-p}
@@ -48,11 +48,11 @@ no-item : (is-leaf ROWS ≡ false) × (is-leaf SAY ≡ false) × (is-leaf LINE-E
 unfolding is-leaf
 no-item = (refl, refl, refl)
 
-module _ (w : Accepted) (ts : List Token) (loops : List Text) (In : Text → Bool) (β : Text → ℕ) (Clear : ℕ → Type 0) (words codes tokens fr : List ℕ) (lo hi : ℕ)
-    (G : Agrees w ts loops In β Clear words codes fr lo hi) (query : Text) (S : Spelled ts query tokens) (old low : List ℕ)
-    (filled : Filled (lower-at (at words) (at codes) (at tokens) (at fr) (elements w) lo) lo hi old low) where
+module _ (w : Accepted) (ts : List Token) (loops : List Text) (In : Text → Bool) (β : Text → ℕ) (Clear : ℕ → Type 0) (words codes tokens fr : List ℕ) (H : Halves) (lo hi : ℕ)
+    (G : Agrees w ts loops In β Clear words codes fr lo hi) (M : Halved w ts H) (query : Text) (S : Spelled ts query tokens) (old low : List ℕ)
+    (filled : Filled (lower-at (at words) (at codes) (at tokens) (at fr) H (elements w) lo) lo hi old low) where
   abbrev count-to : ℕ → ℕ
-  count-to n = before w ts loops In β Clear words codes tokens fr lo hi G old low filled n
+  count-to n = before w ts loops In β Clear words codes tokens fr H lo hi G M old low filled n
 
   -- a loop variable or a string by itself
   word-leaf : (k : ℕ) (p : Term) → ScopedWord w ts loops In p → lo ≤ k → k < hi → getD words k 0 ≡ leaf WORD p → Leaf w β loops low query p (getD low k 0)
@@ -60,24 +60,24 @@ module _ (w : Accepted) (ts : List Token) (loops : List Text) (In : Text → Boo
   word-leaf k (name t) o l h e =
       let s : number t < 65536 = omega (arith, o .0 .inside, G .few-tokens) in
       let m : (β (t .text) - 72) % 65536 ≡ β (t .text) - 72 = omega (arith, G .depths (t .text) (o .1) .1) in
-      by-variable (o .1) (kind-at words codes tokens fr (elements w) lo hi old low filled k WORD (number t) 0 0 (omega arith) s (omega arith) l h e (λ z. omega arith))
-      (variable-p words codes tokens fr (elements w) lo hi old low filled k WORD (number t) 0 0 (omega arith) s (omega arith) l h e refl ∙ rw (G .variables t (o .0) (o .1)) m)
+      by-variable (o .1) (kind-at words codes tokens fr H (elements w) lo hi old low filled k WORD (number t) 0 0 (omega arith) s (omega arith) l h e (λ z. omega arith))
+      (variable-p words codes tokens fr H (elements w) lo hi old low filled k WORD (number t) 0 0 (omega arith) s (omega arith) l h e refl ∙ rw (G .variables t (o .0) (o .1)) m)
   word-leaf k (string t) o l h e =
       let s : number t < 65536 = omega (arith, o .inside, G .few-tokens) in
       let m : start-of (getD tokens (number t) 0) % 65536 ≡ start-of (getD tokens (number t) 0) = omega (arith, S .near t o) in
-      by-string {t = t} (kind-at words codes tokens fr (elements w) lo hi old low filled k (STRING + WORD) (number t) 0 0 (omega arith) s (omega arith) l h e (λ z. omega arith))
-      (rw (string-q words codes tokens fr (elements w) lo hi old low filled k (STRING + WORD) (number t) 0 0 (omega arith) s (omega arith) l h e refl, string-p words codes tokens fr (elements w) lo hi old low filled k (STRING + WORD) (number t) 0 0 (omega arith) s (omega arith) l h e refl, m) (S .text t o))
+      by-string {t = t} (kind-at words codes tokens fr H (elements w) lo hi old low filled k (STRING + WORD) (number t) 0 0 (omega arith) s (omega arith) l h e (λ z. omega arith))
+      (rw (string-q words codes tokens fr H (elements w) lo hi old low filled k (STRING + WORD) (number t) 0 0 (omega arith) s (omega arith) l h e refl, string-p words codes tokens fr H (elements w) lo hi old low filled k (STRING + WORD) (number t) 0 0 (omega arith) s (omega arith) l h e refl, m) (S .text t o))
   word-leaf k anything o l h e = absurd o
 
   -- after such a word no term stands before, and no more closures
   after-word : (k : ℕ) (p : Term) → ScopedWord w ts loops In p → lo ≤ k → k < hi → getD words k 0 ≡ leaf WORD p → Clear (k + 1) × (count-to (k + 1) ≡ count-to k)
   after-word k (name t) o l h e = (
     G .others k WORD (number t) 0 0 l h (omega arith) no-word e,
-    name-before w ts loops In β Clear words codes tokens fr lo hi G old low filled k WORD (number t) 0 0 l e (omega arith) (λ z. omega arith),
+    name-before w ts loops In β Clear words codes tokens fr H lo hi G M old low filled k WORD (number t) 0 0 l e (omega arith) (λ z. omega arith),
   )
   after-word k (string t) o l h e = (
     G .others k (STRING + WORD) (number t) 0 0 l h (omega arith) no-string e,
-    name-before w ts loops In β Clear words codes tokens fr lo hi G old low filled k (STRING + WORD) (number t) 0 0 l e (omega arith) (λ z. omega arith),
+    name-before w ts loops In β Clear words codes tokens fr H lo hi G M old low filled k (STRING + WORD) (number t) 0 0 l e (omega arith) (λ z. omega arith),
   )
   after-word k anything o l h e = absurd o
 
@@ -118,18 +118,18 @@ module _ (w : Accepted) (ts : List Token) (loops : List Text) (In : Text → Boo
       let j : k - 1 ≡ n + length ps + size e - 1 = omega arith in
       let v : getD fr (k - 1) 0 ≡ pack (map (λ y. β y - 63) (free (w .variables) e)) = rw j (A .value) in
       record {
-        kind = kind-at words codes tokens fr (elements w) lo hi old low filled k ROWS n (length ps) 0 (omega arith) s t (omega arith) h r (λ z. omega arith);
-        label = L .label (getD low k 0) (rows-p words codes tokens fr (elements w) lo hi old low filled k ROWS n (length ps) 0 (omega arith) s t (omega arith) h r refl);
+        kind = kind-at words codes tokens fr H (elements w) lo hi old low filled k ROWS n (length ps) 0 (omega arith) s t (omega arith) h r (λ z. omega arith);
+        label = L .label (getD low k 0) (rows-p words codes tokens fr H (elements w) lo hi old low filled k ROWS n (length ps) 0 (omega arith) s t (omega arith) h r refl);
         columns = item-columns β (getD low k 0) (getD fr (k - 1) 0)
-            (rows-a words codes tokens fr (elements w) lo hi old low filled k ROWS n (length ps) 0 (omega arith) s t (omega arith) h r refl)
-            (rows-b words codes tokens fr (elements w) lo hi old low filled k ROWS n (length ps) 0 (omega arith) s t (omega arith) h r refl)
-            (rows-c words codes tokens fr (elements w) lo hi old low filled k ROWS n (length ps) 0 (omega arith) s t (omega arith) h r refl)
-            (rows-d words codes tokens fr (elements w) lo hi old low filled k ROWS n (length ps) 0 (omega arith) s t (omega arith) h r refl)
+            (rows-a words codes tokens fr H (elements w) lo hi old low filled k ROWS n (length ps) 0 (omega arith) s t (omega arith) h r refl)
+            (rows-b words codes tokens fr H (elements w) lo hi old low filled k ROWS n (length ps) 0 (omega arith) s t (omega arith) h r refl)
+            (rows-c words codes tokens fr H (elements w) lo hi old low filled k ROWS n (length ps) 0 (omega arith) s t (omega arith) h r refl)
+            (rows-d words codes tokens fr H (elements w) lo hi old low filled k ROWS n (length ps) 0 (omega arith) s t (omega arith) h r refl)
             (free (w .variables) e) (A .listed) v
-            (rows-n words codes tokens fr (elements w) lo hi old low filled k ROWS n (length ps) 0 (omega arith) s t (omega arith) h r refl
+            (rows-n words codes tokens fr H (elements w) lo hi old low filled k ROWS n (length ps) 0 (omega arith) s t (omega arith) h r refl
             ∙ ap count v ∙ count-law _ (A .listed) ∙ length-map (λ y. β y - 63) (free (w .variables) e));
         slots = λ x m. slot-byte (β x) (G .slots x (A .inside x m) .0) (omega (arith, G .slots x (A .inside x m) .1));
-        words = lowered-expression w ts loops In β Clear words codes tokens fr lo hi G old low filled e (n + length ps) c (ec ∙ sym (L .counted)) o (omega arith) (omega arith) (L .clear) (P .inner);
+        words = lowered-expression w ts loops In β Clear words codes tokens fr H lo hi G M old low filled e (n + length ps) c (ec ∙ sym (L .counted)) o (omega arith) (omega arith) (L .clear) (P .inner);
       }
 
   passed-rows : (ps : List Term) (e : Expression) (n : ℕ) → lo ≤ n → n + (length ps + size e) < hi → Parts ps e n → (j : ℕ) → n ≤ j → j < n + (length ps + size e) → is-item (kind-of (getD low j 0)) ≡ false
@@ -144,10 +144,10 @@ module _ (w : Accepted) (ts : List Token) (loops : List Text) (In : Text → Boo
       go : (t : Bool) → ltb j (n + length ps) ≡ t → is-item (kind-of (getD low j 0)) ≡ false
       go true z =
           let y = ltb-true j (n + length ps) z in
-          passed words codes tokens fr (elements w) lo hi old low filled (leaves WORD ps) n l (omega (arith, m)) (P .first) (quiet-leaves WORD ps (omega arith)) j a (omega (arith, m, y))
+          passed words codes tokens fr H (elements w) lo hi old low filled (leaves WORD ps) n l (omega (arith, m)) (P .first) (quiet-leaves WORD ps (omega arith)) j a (omega (arith, m, y))
       go false z =
           let y = ltb-false j (n + length ps) z in
-          passed words codes tokens fr (elements w) lo hi old low filled (flat e (n + length ps)) (n + length ps) (omega arith) (omega (arith, f)) (P .inner) (quiet-flat e (n + length ps)) j y (omega (arith, f, b))
+          passed words codes tokens fr H (elements w) lo hi old low filled (flat e (n + length ps)) (n + length ps) (omega arith) (omega (arith, f)) (P .inner) (quiet-flat e (n + length ps)) j y (omega (arith, f, b))
 
   free-rows : (ps : List Term) (e : Expression) (n : ℕ) → Scoped w ts loops In e → lo ≤ n → n + length ps + size e < hi → Parts ps e n → Labelled ps n → FreeAt w ts loops In β Clear words codes fr lo hi e (n + length ps)
   free-rows ps e n o l h P L = G .frees e (n + length ps) o (omega arith) (omega arith) (L .clear) (P .inner)
@@ -160,8 +160,8 @@ module _ (w : Accepted) (ts : List Token) (loops : List Text) (In : Text → Boo
       lowered-rows (passed-rows ps e n l (omega arith) P)
       (rows-lowered ps e n c (n + (length ps + size e)) (omega arith) ec (o .1) l (omega arith) P L (free-rows ps e n (o .1) l (omega arith) P L))
   lowered-item (Syntax.word p) n c ec o l h cl x =
-      lowered-word (word-leaf n p o l (omega arith) (x .0)) (kind-only words codes tokens fr (elements w) lo hi old low filled (n + 1) SAY n 0 0 (omega arith) (omega arith) (x .1 .0) (omega arith) (λ z. omega arith))
-  lowered-item line-end n c ec o l h cl x = lowered-end (kind-only words codes tokens fr (elements w) lo hi old low filled n LINE-END 0 0 0 l (omega arith) (x .0) (omega arith) (λ z. omega arith))
+      lowered-word (word-leaf n p o l (omega arith) (x .0)) (kind-only words codes tokens fr H (elements w) lo hi old low filled (n + 1) SAY n 0 0 (omega arith) (omega arith) (x .1 .0) (omega arith) (λ z. omega arith))
+  lowered-item line-end n c ec o l h cl x = lowered-end (kind-only words codes tokens fr H (elements w) lo hi old low filled n LINE-END 0 0 0 l (omega arith) (x .0) (omega arith) (λ z. omega arith))
 
   -- the words after an item
   pub record Next (i : Item) (n c : ℕ) : Type 0 where
@@ -175,20 +175,20 @@ module _ (w : Accepted) (ts : List Token) (loops : List Text) (In : Text → Boo
       let L = labelled ps n (o .0) l (omega arith) cl (P .first) in
       let k = n + length ps + size e in
       let z : n + (length ps + (size e + 1)) ≡ k + 1 = omega arith in
-      let a = closures-then w ts loops In β Clear words codes tokens fr lo hi G old low filled e (n + length ps) c (ec ∙ sym (L .counted)) (omega arith) (P .inner) in
-      let b = name-before w ts loops In β Clear words codes tokens fr lo hi G old low filled k ROWS n (length ps) 0 (omega arith) (P .root) (omega arith) (λ y. omega arith) in
+      let a = closures-then w ts loops In β Clear words codes tokens fr H lo hi G M old low filled e (n + length ps) c (ec ∙ sym (L .counted)) (omega arith) (P .inner) in
+      let b = name-before w ts loops In β Clear words codes tokens fr H lo hi G M old low filled k ROWS n (length ps) 0 (omega arith) (P .root) (omega arith) (λ y. omega arith) in
       record { clear = rw z (G .others k ROWS n (length ps) 0 (omega arith) (omega arith) (omega arith) (no-item .0) (P .root)); counted = rw z (a ∙ sym b) }
   next-item (Syntax.word p) n c ec o l h cl x =
       let z : n + 2 ≡ n + 1 + 1 = omega arith in
       let a = after-word n p o l (omega arith) (x .0) in
-      let b = name-before w ts loops In β Clear words codes tokens fr lo hi G old low filled (n + 1) SAY n 0 0 (omega arith) (x .1 .0) (omega arith) (λ y. omega arith) in
+      let b = name-before w ts loops In β Clear words codes tokens fr H lo hi G M old low filled (n + 1) SAY n 0 0 (omega arith) (x .1 .0) (omega arith) (λ y. omega arith) in
       let s : c + 0 ≡ c = omega arith in
       record { clear = rw z (G .others (n + 1) SAY n 0 0 (omega arith) (omega arith) (omega arith) (no-item .1) (x .1 .0)); counted = rw (z, s) (ec ∙ sym (a .1) ∙ sym b) }
   next-item line-end n c ec o l h cl x =
       let s : c + 0 ≡ c = omega arith in
       record {
         clear = G .others n LINE-END 0 0 0 l (omega arith) (omega arith) (no-item .2) (x .0);
-        counted = rw s (ec ∙ sym (name-before w ts loops In β Clear words codes tokens fr lo hi G old low filled n LINE-END 0 0 0 l (x .0) (omega arith) (λ y. omega arith)));
+        counted = rw s (ec ∙ sym (name-before w ts loops In β Clear words codes tokens fr H lo hi G M old low filled n LINE-END 0 0 0 l (x .0) (omega arith) (λ y. omega arith)));
       }
 
   lowered-items : (is : List Item) (n c : ℕ) → c ≡ count-to n → ScopedItems w ts loops In is → lo ≤ n → n + size-items is ≤ hi → Clear n → Has words n (flat-items is n) → ItemsLowered w β loops low query is n c
@@ -205,7 +205,7 @@ module _ (w : Accepted) (ts : List Token) (loops : List Text) (In : Text → Boo
       → PrintLowered w β loops low query is (lo + size-items is)
   lowered-print i is hi₀ o h cl x e =
       let s : lo < 65536 = omega (arith, G .few-words) in
-      let p = print-p words codes tokens fr (elements w) lo hi old low filled (lo + size-items is) PRINT lo 0 i (omega arith) s (omega arith) (omega arith) h e refl in
+      let p = print-p words codes tokens fr H (elements w) lo hi old low filled (lo + size-items is) PRINT lo 0 i (omega arith) s (omega arith) (omega arith) h e refl in
       record {
         items = rw p (lowered-items is lo 0 (sym (none-before (at words) lo lo (omega arith))) o (omega arith) (omega arith) cl x);
         place = rw p refl;

@@ -4,10 +4,10 @@ use mathlib.Core.Path.{_≡_}
 use mathlib.Core.Bool.{Bool, true, false, cond}
 use native.Mathlib.Omega.{arith}
 use lib.Dec.{eqb, ltb}
-use Rattle.words.specs.Fields.{kind-of, p-of, q-of}
-use Rattle.eval.specs.Nodes.{a-of, b-of, c-of, d-of, n-of, operands-of}
+use Rattle.words.specs.Fields.{kind-of, p-of, q-of, r-of}
+use Rattle.eval.specs.Nodes.{a-of, b-of, c-of, d-of, n-of, operands-of, half-of}
 use Rattle.digits.specs.Packed.{has}
-use Rattle.lowering.specs.Lowering.{Cells, lowered, slots-of, slot-bit, mask, term-byte, operands-at, all-stand, kind-field, node-p, p-field, operand-field, count-field}
+use Rattle.lowering.specs.Lowering.{Cells, Halves, lowered, slots-of, slot-bit, mask, term-byte, operands-at, all-stand, kind-field, node-p, p-field, operand-field, count-field}
 use Rattle.lowering.proofs.Filling.{count-small}
 
 module _ (k p o n : ℕ) (hk : k < 256) (hp : p < 65536) (ho : o < 4294967296) (hn : n < 256) where
@@ -22,6 +22,9 @@ module _ (k p o n : ℕ) (hk : k < 256) (hp : p < 65536) (ho : o < 4294967296) (
 
   pub operands-lowered : operands-of (lowered k p o n) ≡ o + n * 4294967296
   operands-lowered = omega arith
+
+  pub half-lowered : half-of (lowered k p o n) ≡ o
+  half-lowered = let f : (o + n * 4294967296) % 4294967296 ≡ o = omega arith in rw operands-lowered f
 
   pub q-lowered : q-of (lowered k p o n) ≡ o % 65536
   q-lowered = let f : (o + n * 4294967296) % 65536 ≡ o % 65536 = omega arith in rw operands-lowered f
@@ -77,7 +80,8 @@ module _ (R C L F : Cells) (u : ℕ) where
       pick-lt (eqb (w % 256) 10) (omega arith)
       (pick-lt (eqb (w % 256) 33) (omega arith)
       (pick-lt (eqb (w % 256) 13) (omega arith)
-      (pick-lt (eqb (w % 256) 19) (omega arith) (pick-lt (eqb (w % 256) 20) (omega arith) (pick-lt (eqb (w % 256) 30) (pick-lt (eqb (q-of w) 0) (omega arith) (omega arith)) (omega arith))))))
+      (pick-lt (eqb (w % 256) 23) (omega arith)
+      (pick-lt (eqb (w % 256) 19) (omega arith) (pick-lt (eqb (w % 256) 20) (omega arith) (pick-lt (eqb (w % 256) 30) (pick-lt (eqb (q-of w) 0) (omega arith) (omega arith)) (omega arith)))))))
 
   pub p-small : (w : ℕ) → p-field R C L w < 65536
   unfolding p-field
@@ -103,18 +107,20 @@ module _ (R C L F : Cells) (u : ℕ) where
   unfolding slots-of
   slots-small f = omega arith
 
-  pub operand-small : (c k w : ℕ) → operand-field R C L F c k w < 4294967296
+  pub operand-small : (H : Halves) (c k w : ℕ) → operand-field R C L F H c k w < 4294967296
   unfolding operand-field
-  operand-small c k w =
+  operand-small H c k w =
       pick-lt (eqb (w % 256) 6) (omega arith)
       (pick-lt (eqb (w % 256) 10) (operands-small (p-of w + 1))
       (pick-lt (eqb (w % 256) 33) (operands-small (p-of w + 1))
       (pick-lt (eqb (w % 256) 13) (operands-small (p-of w))
       (pick-lt (eqb (w % 256) 21) (omega arith)
       (pick-lt (eqb (w % 256) 22) (omega (arith, mask-small (F (p-of w)) (F (q-of w))))
-      (pick-lt (eqb (w % 256) 30) (slots-small (F (k - 1))) (pick-lt (eqb (w % 256) 44) (omega arith) (omega arith))))))))
+      (pick-lt (eqb (w % 256) 23) (omega arith)
+      (pick-lt (eqb (w % 256) 30) (slots-small (F (k - 1))) (pick-lt (eqb (w % 256) 44) (omega arith) (omega arith)))))))))
 
-  pub count-field-small : (k w : ℕ) → count-field F k w < 256
+  pub count-field-small : (k w : ℕ) → count-field R C F k w < 256
   unfolding count-field
   count-field-small k w =
-      pick-lt (eqb (w % 256) 10) (omega arith) (pick-lt (eqb (w % 256) 33) (omega arith) (pick-lt (eqb (w % 256) 30) (count-small (F (k - 1))) (omega arith)))
+      pick-lt (eqb (w % 256) 10) (omega arith)
+      (pick-lt (eqb (w % 256) 33) (omega arith) (pick-lt (eqb (w % 256) 23) (term-small (R (r-of w))) (pick-lt (eqb (w % 256) 30) (count-small (F (k - 1))) (omega arith))))

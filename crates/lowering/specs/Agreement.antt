@@ -1,6 +1,6 @@
 -- When the arrays that lowering reads agree with the definition: a statement's names and strings are those of its text, and each token's
 -- code and each expression's free attributes are right.
-use Prim.Native.Nat.{ℕ, _+_, _-_, _<_, _≤_}
+use Prim.Native.Nat.{ℕ, _+_, _-_, _%_, _<_, _≤_}
 use mathlib.Core.Path.{_≡_}
 use mathlib.Core.Bool.{Bool, true, false, not}
 use mathlib.Core.List.{List, [], _∷_, map}
@@ -8,9 +8,11 @@ use lib.Dec.{T}
 use lib.ListN.{length, getD}
 use Rattle.definition.specs.Text.{Text, member}
 use Rattle.definition.specs.Token.{Token}
-use Rattle.definition.specs.Syntax.{Term, name, string, anything, Expression, atom, truth, falsity, compare, negation, conjunction, disjunction, implication, equivalence, exists, for-all, closure-of, compare-relations, Item, rows, line-end}
+use Rattle.definition.specs.Syntax.{Term, name, string, anything, Expression, atom, truth, falsity, compare, matching, negation, conjunction, disjunction, implication, equivalence, exists, for-all, closure-of, compare-relations, Item, rows, line-end}
 use Rattle.definition.specs.Syntax as Syntax
 use Rattle.definition.specs.Names.{free}
+use Rattle.definition.specs.Tables.{bit}
+use Rattle.definition.specs.Pattern.{matches}
 use Rattle.definition.specs.Accept.{Accepted, elements}
 use Rattle.definition.specs.Meaning.{numbers}
 use Rattle.definition.proofs.RelationLaws.{place-of, no-relation}
@@ -23,7 +25,7 @@ use Rattle.digits.proofs.Listing.{Listed}
 use Rattle.free.specs.Words.{is-leaf}
 use Rattle.words.specs.Standing.{Has}
 use Rattle.meaning.specs.Lowered.{root}
-use Rattle.lowering.specs.Lowering.{at, closures-before}
+use Rattle.lowering.specs.Lowering.{at, Halves, closures-before}
 
 -- `In` says which names are attributes of the statement, `loops` are the variables of the open FORs
 module _ (w : Accepted) (ts : List Token) (loops : List Text) (In : Text → Bool) where
@@ -52,6 +54,7 @@ module _ (w : Accepted) (ts : List Token) (loops : List Text) (In : Text → Boo
   Scoped (truth ps) = ScopedTerms ps
   Scoped (falsity ps) = ScopedTerms ps
   Scoped (compare g p q) = ScopedTerm p × ScopedTerm q
+  Scoped (matching s p) = OwnString ts s × ScopedTerm p
   Scoped (negation e) = Scoped e
   Scoped (conjunction a b) = Scoped a × Scoped b
   Scoped (disjunction a b) = Scoped a × Scoped b
@@ -130,3 +133,7 @@ module _ (w : Accepted) (ts : List Token) (loops : List Text) (In : Text → Boo
 pub record Spelled (ts : List Token) (query : Text) (tokens : List ℕ) : Type 0 where
   pub text : (t : Token) → OwnString ts t → text-at query (getD tokens (number t) 0) ≡ t .text
   pub near : (t : Token) → OwnString ts t → start-of (getD tokens (number t) 0) < 65536
+
+-- the halves of a pattern's elements are of those that match it
+pub record Halved (w : Accepted) (ts : List Token) (H : Halves) : Type 0 where
+  pub set : (t : Token) → OwnString ts t → (b i : ℕ) → i < 32 → b + i < elements w → bit (H (number t) b % 4294967296) i ≡ matches (t .text) (getD (w .universe) (b + i) [])

@@ -7,9 +7,12 @@ use mathlib.Core.Bool.{Bool, true, false, not, cond}
 use mathlib.Core.List.{List}
 use lib.Dec.{eqb, ltb, leb}
 use lib.ListN.{length, getD}
-use Rattle.words.specs.Fields.{kind-of, p-of, q-of, r-of, TERM, ANYTHING, ATOM, TRUTH, FALSITY, ORDER, EXISTS, FOR-ALL, CLOSURE, COMPARISON, RANGE, ROWS, ASSIGN, STRING, WORD}
+use Rattle.words.specs.Fields.{kind-of, p-of, q-of, r-of, TERM, ANYTHING, ATOM, TRUTH, FALSITY, ORDER, EXISTS, FOR-ALL, CLOSURE, COMPARISON, MATCH, RANGE, ROWS, ASSIGN, STRING, WORD}
 use Rattle.digits.specs.Packed.{has, count}
-use Rattle.intern.specs.Entries.{start-of}
+use Rattle.definition.specs.Text.{Text}
+use Rattle.parts.specs.Entries.{texts-of}
+use Rattle.intern.specs.Entries.{start-of, text-at}
+use Rattle.matching.specs.Halves.{half-of}
 use Rattle.slots.specs.Slots.{one-closure}
 
 abbrev pub lowered : ℕ → ℕ → ℕ → ℕ → ℕ
@@ -41,6 +44,14 @@ at xs i = getD xs i 0
 abbrev pub Cells : Type 0
 Cells = ℕ → ℕ
 
+-- the elements that match the pattern of a token, as the bits of a word: the 32 from a first one on
+abbrev pub Halves : Type 0
+Halves = ℕ → ℕ → ℕ
+
+-- those of the universe whose parts are the places, by the texts of the tokens
+unfoldable pub halves : Text → Text → List ℕ → Cells → Halves
+halves facts query places L t b = half-of (text-at query (L t)) (texts-of facts query places) b
+
 -- the operand byte of a term; 254 is "_"
 unfoldable pub term-byte : Cells → ℕ → ℕ
 term-byte C w = cond (eqb (kind-of w) ANYTHING) 254 (C (p-of w) % 256)
@@ -64,14 +75,15 @@ kind-field R C u w = cond (eqb (kind-of w) TRUTH) (cond (all-stand R C u (q-of w
 abbrev pub label-place : ℕ → ℕ → ℕ
 label-place p q = cond (eqb q 0) 0 ((p + 1) % 65536)
 
--- a relation's number, a sign, an attribute's slot, the place after a label's, or what the raw word has
+-- a relation's number, a sign, the first element of a half, an attribute's slot, the place after a label's, or what the raw word has
 unfoldable pub node-p : Cells → Cells → ℕ → ℕ
 node-p R C w =
     cond (eqb (kind-of w) ATOM) (C (p-of (R (p-of w))) % 65536)
     (cond (eqb (kind-of w) ASSIGN) (C (p-of (R (p-of w))) % 65536)
     (cond (eqb (kind-of w) ORDER) (q-of w)
+    (cond (eqb (kind-of w) MATCH) (q-of w)
     (cond (eqb (kind-of w) EXISTS) (term-byte C (R (p-of w)) % 8)
-    (cond (eqb (kind-of w) FOR-ALL) (term-byte C (R (p-of w)) % 8) (cond (eqb (kind-of w) ROWS) (label-place (p-of w) (q-of w)) (p-of w))))))
+    (cond (eqb (kind-of w) FOR-ALL) (term-byte C (R (p-of w)) % 8) (cond (eqb (kind-of w) ROWS) (label-place (p-of w) (q-of w)) (p-of w)))))))
 
 -- the depth of a loop variable's FOR
 abbrev pub depth-of : ℕ → ℕ
@@ -95,25 +107,27 @@ closure-field f c = slot-of (f % 8) + slot-of (f / 8 % 8) * 256 + c % 256 * 6553
 abbrev pub comparison-field : ℕ → ℕ → ℕ → ℕ → ℕ
 comparison-field q r a b = q + r % 256 * 65536 + mask a b * 16777216
 
--- these, or operands, columns, a printed string's length, a target or child; c closures of the statement stand before the place k
-unfoldable pub operand-field : Cells → Cells → Cells → Cells → ℕ → ℕ → ℕ → ℕ
-operand-field R C L F c k w =
+-- these, or operands, columns, a half of the matching elements, a printed string's length, a target or child; c closures of the statement stand before the place k
+unfoldable pub operand-field : Cells → Cells → Cells → Cells → Halves → ℕ → ℕ → ℕ → ℕ
+operand-field R C L F H c k w =
     cond (eqb (kind-of w) RANGE) (range-field (q-of w) (F (k - 1)))
     (cond (eqb (kind-of w) ATOM) (operands-at R C (p-of w + 1))
     (cond (eqb (kind-of w) ASSIGN) (operands-at R C (p-of w + 1))
     (cond (eqb (kind-of w) ORDER) (operands-at R C (p-of w))
     (cond (eqb (kind-of w) CLOSURE) (closure-field (F (p-of w)) c)
     (cond (eqb (kind-of w) COMPARISON) (comparison-field (q-of w) (r-of w) (F (p-of w)) (F (q-of w)))
-    (cond (eqb (kind-of w) ROWS) (slots-of (F (k - 1))) (cond (eqb (kind-of w) (STRING + WORD)) (L (p-of w) / 64 % 64) (q-of w))))))))
+    (cond (eqb (kind-of w) MATCH) (H (p-of w) (q-of w) % 4294967296)
+    (cond (eqb (kind-of w) ROWS) (slots-of (F (k - 1))) (cond (eqb (kind-of w) (STRING + WORD)) (L (p-of w) / 64 % 64) (q-of w)))))))))
 
--- how many operands or columns
-unfoldable pub count-field : Cells → ℕ → ℕ → ℕ
-count-field F k w =
-    cond (eqb (kind-of w) ATOM) (q-of w % 256) (cond (eqb (kind-of w) ASSIGN) (q-of w % 256) (cond (eqb (kind-of w) ROWS) (count (F (k - 1))) 0))
+-- how many operands or columns; of a half its operand
+unfoldable pub count-field : Cells → Cells → Cells → ℕ → ℕ → ℕ
+count-field R C F k w =
+    cond (eqb (kind-of w) ATOM) (q-of w % 256)
+    (cond (eqb (kind-of w) ASSIGN) (q-of w % 256) (cond (eqb (kind-of w) MATCH) (term-byte C (R (r-of w))) (cond (eqb (kind-of w) ROWS) (count (F (k - 1))) 0)))
 
 -- the word at a place
-unfoldable pub lower-word : Cells → Cells → Cells → Cells → ℕ → ℕ → ℕ → ℕ
-lower-word R C L F u c k = lowered (kind-field R C u (R k)) (p-field R C L (R k)) (operand-field R C L F c k (R k)) (count-field F k (R k))
+unfoldable pub lower-word : Cells → Cells → Cells → Cells → Halves → ℕ → ℕ → ℕ → ℕ
+lower-word R C L F H u c k = lowered (kind-field R C u (R k)) (p-field R C L (R k)) (operand-field R C L F H c k (R k)) (count-field R C F k (R k))
 
 -- how many closures stand from lo on before a place
 unfoldable pub closures-before : Cells → ℕ → ℕ → ℕ
@@ -121,8 +135,8 @@ closures-before R lo zero = 0
 closures-before R lo (suc k) = closures-before R lo k + cond (leb lo k) (one-closure (R k)) 0
 
 -- the lowered word at a place of a statement whose words begin at lo
-unfoldable pub lower-at : Cells → Cells → Cells → Cells → ℕ → ℕ → ℕ → ℕ
-lower-at R C L F u lo k = lower-word R C L F u (closures-before R lo k) k
+unfoldable pub lower-at : Cells → Cells → Cells → Cells → Halves → ℕ → ℕ → ℕ → ℕ
+lower-at R C L F H u lo k = lower-word R C L F H u (closures-before R lo k) k
 
 -- the cells from lo to hi are those of f, and all others are as they were
 pub record Filled (f : ℕ → ℕ) (lo hi : ℕ) (old new : List ℕ) : Type 0 where

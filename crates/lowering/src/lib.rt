@@ -2,7 +2,7 @@
 ghost use mathlib.Core.Path.{_≡_};
 ghost use Prim.Native.Nat.{_-_, _%_, _<_, _≤_};
 ghost use lib.ListN.{length, getD};
-ghost use Rattle.lowering.specs.Lowering.{lowered, four-bytes, slot-of, slots-of, slot-bit, mask, at, term-byte, label-place, depth-of, range-field, closure-field, comparison-field, operands-at, may-stand, all-stand, kind-field, node-p, p-field, operand-field, count-field, lower-word, lower-at, Filled};
+ghost use Rattle.lowering.specs.Lowering.{lowered, four-bytes, slot-of, slots-of, slot-bit, mask, at, term-byte, label-place, depth-of, range-field, closure-field, comparison-field, operands-at, may-stand, all-stand, kind-field, node-p, p-field, halves, operand-field, count-field, lower-word, lower-at, Filled};
 use words::word_at;
 use words::word_before;
 
@@ -146,6 +146,7 @@ fn node_p(words: &[u64], codes: &[u64], w: u64) -> u64
         10 => word_at(codes, (word_at(words, p as usize) / 256 % 65536) as usize) % 65536,
         33 => word_at(codes, (word_at(words, p as usize) / 256 % 65536) as usize) % 65536,
         13 => q,
+        23 => q,
         19 => term_byte(codes, word_at(words, p as usize)) % 8,
         20 => term_byte(codes, word_at(words, p as usize)) % 8,
         30 => label_place(p, q),
@@ -204,8 +205,25 @@ fn comparison_field(q: u64, r: u64, a: u64, b: u64) -> u64
     q + r % 256 * 65536 + mask(a, b) * 16777216
 }
 
+// Of the 32 elements from q on those that match the pattern of the token p.
+fn half_field<'a>(
+    facts: &'a [u8],
+    query: &'a [u8],
+    places: &[usize],
+    tokens: &[u64],
+    p: usize,
+    q: usize,
+) -> u64
+    ensures { λ r. ⌜ (r ≡ halves (now (facts .entry)) (now (query .entry)) (now (places .entry)) (at (now (tokens .entry))) p q % 4294967296) × (r < 4294967296) ⌝ }
+{
+    matching::half(facts, query, places, word_at(tokens, p), q) % 4294967296
+}
+
 // The four bytes of a word, where c closures of the statement stand before the place k.
-fn operand_field(
+fn operand_field<'a>(
+    facts: &'a [u8],
+    query: &'a [u8],
+    places: &[usize],
     words: &[u64],
     codes: &[u64],
     tokens: &[u64],
@@ -214,7 +232,7 @@ fn operand_field(
     k: usize,
     w: u64,
 ) -> u64
-    ensures { λ r. ⌜ (r ≡ operand-field (at (now (words .entry))) (at (now (codes .entry))) (at (now (tokens .entry))) (at (now (free .entry))) c k w) × (r < 4294967296) ⌝ }
+    ensures { λ r. ⌜ (r ≡ operand-field (at (now (words .entry))) (at (now (codes .entry))) (at (now (tokens .entry))) (at (now (free .entry))) (halves (now (facts .entry)) (now (query .entry)) (now (places .entry)) (at (now (tokens .entry)))) c k w) × (r < 4294967296) ⌝ }
 {
     let p = (w / 256 % 65536) as usize;
     let q = w / 16777216 % 65536;
@@ -230,27 +248,32 @@ fn operand_field(
             word_at(free, p),
             word_at(free, q as usize),
         ),
+        23 => half_field(facts, query, places, tokens, p, q as usize),
         30 => slots_of(word_before(free, k)),
         44 => word_at(tokens, p) / 64 % 64,
         _ => q,
     }
 }
 
-// How many operands or columns.
-fn count_field(free: &[u64], k: usize, w: u64) -> u64
-    ensures { λ r. ⌜ (r ≡ count-field (at (now (free .entry))) k w) × (r < 256) ⌝ }
+// How many operands or columns; the operand of a half.
+fn count_field(words: &[u64], codes: &[u64], free: &[u64], k: usize, w: u64) -> u64
+    ensures { λ r. ⌜ (r ≡ count-field (at (now (words .entry))) (at (now (codes .entry))) (at (now (free .entry))) k w) × (r < 256) ⌝ }
 {
     let q = w / 16777216 % 65536;
     match w % 256 {
         10 => q % 256,
         33 => q % 256,
+        23 => term_byte(codes, word_at(words, (w / 1099511627776 % 65536) as usize)),
         30 => digits::count(word_before(free, k)),
         _ => 0,
     }
 }
 
 // The word at a place.
-fn lower_word(
+fn lower_word<'a>(
+    facts: &'a [u8],
+    query: &'a [u8],
+    places: &[usize],
     words: &[u64],
     codes: &[u64],
     tokens: &[u64],
@@ -259,18 +282,21 @@ fn lower_word(
     c: u64,
     k: usize,
 ) -> u64
-    ensures { λ r. ⌜ r ≡ lower-word (at (now (words .entry))) (at (now (codes .entry))) (at (now (tokens .entry))) (at (now (free .entry))) u c k ⌝ }
+    ensures { λ r. ⌜ r ≡ lower-word (at (now (words .entry))) (at (now (codes .entry))) (at (now (tokens .entry))) (at (now (free .entry))) (halves (now (facts .entry)) (now (query .entry)) (now (places .entry)) (at (now (tokens .entry)))) u c k ⌝ }
 {
     let w = word_at(words, k);
     let kind = kind_field(words, codes, u, w);
     let p = p_field(words, codes, tokens, w);
-    let o = operand_field(words, codes, tokens, free, c, k, w);
-    let n = count_field(free, k, w);
+    let o = operand_field(facts, query, places, words, codes, tokens, free, c, k, w);
+    let n = count_field(words, codes, free, k, w);
     pack(kind, p, o, n)
 }
 
 // The words of a statement, from place lo to place hi.
-pub fn lower_part(
+pub fn lower_part<'a>(
+    facts: &'a [u8],
+    query: &'a [u8],
+    places: &[usize],
     words: &[u64],
     codes: &[u64],
     tokens: &[u64],
@@ -281,12 +307,12 @@ pub fn lower_part(
     hi: usize,
 )
     requires { ⌜ (lo ≤ hi) × (hi ≤ length (now low)) ⌝ }
-    ensures { λ _. ⌜ Filled (lower-at (at (now (words .entry))) (at (now (codes .entry))) (at (now (tokens .entry))) (at (now (free .entry))) u lo) lo hi (now (low .entry)) (now (low .exit)) ⌝ }
+    ensures { λ _. ⌜ Filled (lower-at (at (now (words .entry))) (at (now (codes .entry))) (at (now (tokens .entry))) (at (now (free .entry))) (halves (now (facts .entry)) (now (query .entry)) (now (places .entry)) (at (now (tokens .entry)))) u lo) lo hi (now (low .entry)) (now (low .exit)) ⌝ }
 {
     let mut c: u64 = 0;
     let mut k = lo;
     while k < hi {
-        low[k] = lower_word(words, codes, tokens, free, u, c, k);
+        low[k] = lower_word(facts, query, places, words, codes, tokens, free, u, c, k);
         c += slots::one_closure(word_at(words, k)) as u64;
         k += 1;
     }

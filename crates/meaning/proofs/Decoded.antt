@@ -13,10 +13,10 @@ use Rattle.definition.specs.Accept.{Accepted}
 use Rattle.definition.proofs.RelationLaws.{place-of}
 use Rattle.words.specs.Fields.{kind-of, p-of, q-of, TRUTH, FALSITY, NEGATION}
 use Rattle.words.specs.Raw.{sign-number}
-use Rattle.eval.specs.Nodes.{Node, operand, operands, operands-of, sign, node, atom-of, node-at, child-at, a-of, b-of, c-of, d-of}
+use Rattle.eval.specs.Nodes.{Node, operand, operands, operands-of, sign, node, atom-of, node-at, child-at, a-of, b-of, c-of, d-of, n-of, half-of}
 use Rattle.eval.specs.Nodes as Nodes
 use Rattle.eval.proofs.Trees.{node-step, child-below}
-use Rattle.meaning.specs.Lowered.{Atom, Order, One, Two, Quantifier, Closure, Comparison}
+use Rattle.meaning.specs.Lowered.{Atom, Order, Half, One, Two, Quantifier, Closure, Comparison}
 
 sign-same : (g : Sign) → sign (sign-number g) ≡ g
 sign-same equal = refl
@@ -58,6 +58,10 @@ module _ (low : List ℕ) where
     unfolding node
     order-node k g p q l =
         by-kind k 13 (l .kind) ∙ ap (λ (x : Sign). Nodes.order x (operand (a-of (at k))) (operand (b-of (at k)))) (ap sign (l .sign) ∙ sign-same g)
+
+    pub half-node : (k b : ℕ) (s : Token) (p : Term) → Half w β loops low k b s p → node-at low k ≡ Nodes.within b (half-of (at k)) (operand (n-of (at k)))
+    unfolding node
+    half-node k b s p l = by-kind k 23 (l .kind) ∙ ap (λ (i : ℕ). Nodes.within i (half-of (at k)) (operand (n-of (at k)))) (l .first)
 
     pub negation-node : (k a : ℕ) → One w β loops low k NEGATION a → a < k → node-at low k ≡ Nodes.negation (node-at low a)
     unfolding node

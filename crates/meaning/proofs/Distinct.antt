@@ -4,7 +4,7 @@ use mathlib.Core.Bool.{Bool, true, false, not, _||_, cond}
 use mathlib.Core.List.{List, [], _∷_, _++_}
 use lib.Dec.{T, not-T}
 use Rattle.definition.specs.Text.{Text, same, member, some-of, keep}
-use Rattle.definition.specs.Syntax.{Term, name, string, anything, Expression, atom, truth, falsity, compare, negation, conjunction, disjunction, implication, equivalence, exists, for-all, closure-of, compare-relations}
+use Rattle.definition.specs.Syntax.{Term, name, string, anything, Expression, atom, truth, falsity, compare, matching, negation, conjunction, disjunction, implication, equivalence, exists, for-all, closure-of, compare-relations}
 use Rattle.definition.specs.Names.{free, join, attributes}
 use Rattle.definition.proofs.BoolLaws.{or-cases, or-left, or-right, not-both}
 use Rattle.definition.proofs.MeaningLaws.{member-first, member-later, kept-member}
@@ -68,6 +68,7 @@ free-distinct vs (atom r ps) = attributes-distinct vs ps
 free-distinct vs (truth ps) = attributes-distinct vs ps
 free-distinct vs (falsity ps) = attributes-distinct vs ps
 free-distinct vs (compare g p q) = attributes-distinct vs (p ∷ q ∷ [])
+free-distinct vs (matching s p) = attributes-distinct vs (p ∷ [])
 free-distinct vs (negation e) = free-distinct vs e
 free-distinct vs (conjunction a b) = join-distinct (free vs a) (free vs b) (free-distinct vs a) (free-distinct vs b)
 free-distinct vs (disjunction a b) = join-distinct (free vs a) (free vs b) (free-distinct vs a) (free-distinct vs b)

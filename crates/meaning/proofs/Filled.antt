@@ -9,7 +9,7 @@ use lib.Dec.{T}
 use lib.ListN.{length, getD, set, replicate, take, drop, length-append, List·getD-append}
 use lib.Seq.{sets, sets-eq, length-sets, length-take-le, take-at, take-take, getD-append-add, getD-drop, getD-take, set-comm}
 use Rattle.definition.specs.Text.{Text, member, some-of, all-of}
-use Rattle.definition.specs.Syntax.{Expression, atom, truth, falsity, compare, negation, conjunction, disjunction, implication, equivalence, exists, for-all, closure-of, compare-relations}
+use Rattle.definition.specs.Syntax.{Expression, atom, truth, falsity, compare, matching, negation, conjunction, disjunction, implication, equivalence, exists, for-all, closure-of, compare-relations}
 use Rattle.definition.specs.Names.{free, closures}
 use Rattle.definition.specs.Tables.{Tuple, bit, holds, table, closure}
 use Rattle.definition.specs.Accept.{Accepted, elements}
@@ -95,6 +95,13 @@ module _ (firsts vs : List ℕ) (u : ℕ) (low : List ℕ) where
   quiet : (m n : ℕ) (s : List ℕ) (k : ℕ) {K : ℕ} → k ≡ m + 1 → ((i : ℕ) → i < m → kind (n + i) ≡ 21 → ⊥) → kind (n + m) ≡ K → (K ≡ 21 → ⊥) → fill k n s ≡ s
   quiet m n s k e h q d = ap (λ (j : ℕ). fill j n s) e ∙ fill-over m n s (λ r. d (sym q ∙ r)) ∙ fill-quiet m n s h
 
+  -- a pattern's term and halves
+  halves : (n : ℕ) → ((i : ℕ) → i < 1 → kind (n + i) ≡ 21 → ⊥) → kind (n + 1) ≡ 23 → kind (n + 2) ≡ 23 → (i : ℕ) → i < 3 → kind (n + i) ≡ 21 → ⊥
+  halves n l a b zero h e = l 0 (omega arith) e
+  halves n l a b (suc zero) h e = omega arith
+  halves n l a b (suc (suc zero)) h e = omega arith
+  halves n l a b (suc (suc (suc i))) h e = absurd (omega arith)
+
 module _ (w : Accepted) (β : Text → ℕ) (loops : List Text) (vs : List ℕ) (naming : Naming β loops) (low : List ℕ) (ts : Tables) (firsts : List ℕ) where
   abbrev pub u : ℕ
   u = elements w
@@ -161,6 +168,7 @@ module _ (w : Accepted) (β : Text → ℕ) (loops : List Text) (vs : List ℕ) 
     held-kept (truth ps) n c s t b l h q k = tt
     held-kept (falsity ps) n c s t b l h q k = tt
     held-kept (compare g x y) n c s t b l h q k = tt
+    held-kept (matching x y) n c s t b l h q k = tt
     held-kept (negation e) n c s t b l h q k = held-kept e n c s t b (l .0) h q k
     held-kept (conjunction x y) n c s t b l h q k =
         (held-kept x n c s t b (l .0) (first-end x y c b h) q (k .0), held-kept y (n + size x) (c + closure-count x) s t b (l .1 .0) (second-end x y c b h) q (k .1))
@@ -288,6 +296,8 @@ module _ (w : Accepted) (β : Text → ℕ) (loops : List Text) (vs : List ℕ) 
       filled (truth ps) n c s l room q = same-store (truth ps) c s _ (quiet firsts vs u low (length ps) n s (length ps + 1) refl (l .0) (l .1 .kind) (neither (all-of (λ x. some-of (λ a. true) (Definition.choices w nowhere x)) ps))) tt
       filled (falsity ps) n c s l room q = same-store (falsity ps) c s _ (quiet firsts vs u low (length ps) n s (length ps + 1) refl (l .0) (l .1) (λ z. absurd (omega arith))) tt
       filled (compare g x y) n c s l room q = same-store (compare g x y) c s _ (quiet firsts vs u low 2 n s 3 refl (l .0) (l .1 .kind) (λ z. absurd (omega arith))) tt
+      filled (matching x y) n c s l room q =
+          same-store (matching x y) c s _ (quiet firsts vs u low 3 n s 4 refl (halves firsts vs u low n (l .0) (l .1 .0 .kind) (l .1 .1 .0 .kind)) (l .1 .1 .1 .kind) (λ z. absurd (omega arith))) tt
       filled (negation e) n c s l room q =
           moved e (negation e) c s (fill-words firsts vs u low (size e + 1) n s) (fill-of e n s) (fill-over firsts vs u low (size e) n s (λ z. let k = l .1 .kind in absurd (omega arith))) (λ k. k) (filled e n c s (l .0) room q)
       filled (conjunction x y) n c s l room q =

@@ -4,6 +4,7 @@ pub mod Slots
 pub mod Fit
 pub mod Terms
 pub mod Decoded
+pub mod Halves
 pub mod Means
 pub mod Distinct
 pub mod Filled

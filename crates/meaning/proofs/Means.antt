@@ -5,12 +5,13 @@ use mathlib.Core.Bool.{Bool, true, false, not, _||_, _&&_, Bool·beq, cond}
 use mathlib.Core.List.{List, [], _∷_, map}
 use native.Mathlib.Omega.{arith}
 use borrow.Author.Tests.{ne-eqb, ltb-true, ltb-false}
-use lib.Dec.{T, eqb, ltb}
+use lib.Dec.{T, eqb, ltb, leb}
 use lib.ListN.{length, getD, set}
 use Rattle.definition.specs.Text.{Text, same, member, some-of, all-of, below}
-use Rattle.definition.specs.Syntax.{Expression, atom, truth, falsity, compare, negation, conjunction, disjunction, implication, equivalence, exists, for-all, closure-of, compare-relations}
+use Rattle.definition.specs.Syntax.{Expression, atom, truth, falsity, compare, matching, negation, conjunction, disjunction, implication, equivalence, exists, for-all, closure-of, compare-relations}
 use Rattle.definition.specs.Names.{free, join}
 use Rattle.definition.specs.Tables.{Tuple, bit, holds, table, tuples, closure}
+use Rattle.definition.specs.Pattern.{matches}
 use Rattle.definition.specs.Accept.{Accepted, elements}
 use Rattle.definition.specs.Meaning as Definition
 use Rattle.definition.specs.Meaning.{nowhere, Tables, Environment, bind, bind-all, table-of, mean, compares, compares-relations}
@@ -20,7 +21,7 @@ use Rattle.definition.proofs.RelationLaws.{place-of}
 use Rattle.words.specs.Fields.{p-of}
 use Rattle.words.specs.Raw.{size}
 use Rattle.words.proofs.Sizes.{size-pos}
-use Rattle.eval.specs.Nodes.{Node, slot, operand, operands, operands-of, node-at, a-of, b-of, d-of}
+use Rattle.eval.specs.Nodes.{Node, slot, operand, operands, operands-of, node-at, a-of, b-of, d-of, half-of}
 use Rattle.eval.specs.Nodes as Nodes
 use Rattle.eval.specs.Meaning.{World, world, table-at, choices, throughout, meaning}
 use Rattle.meaning.specs.Lowered.{root, closure-count, Naming, none, more, Lowered}
@@ -28,8 +29,9 @@ use Rattle.meaning.specs.Ready.{Fits, Tabled, Held}
 use Rattle.meaning.proofs.Numbers.{some-same, all-same, all-gather}
 use Rattle.meaning.proofs.Slots.{set-all, In, Under, under, tuples-mask}
 use Rattle.meaning.proofs.Fit.{slot-low, weaken, fits-bind, slots, fits-all}
-use Rattle.meaning.proofs.Terms.{readings-same, some-readings, truth-readings}
-use Rattle.meaning.proofs.Decoded.{truth-node, atom-node, order-node, negation-node, conjunction-node, disjunction-node, implication-node, equivalence-node, exists-node, for-all-node, closure-node, comparison-node}
+use Rattle.meaning.proofs.Terms.{some-term, readings-same, some-readings, truth-readings}
+use Rattle.meaning.proofs.Halves.{first-half, second-half, some-halves}
+use Rattle.meaning.proofs.Decoded.{truth-node, atom-node, order-node, half-node, negation-node, conjunction-node, disjunction-node, implication-node, equivalence-node, exists-node, for-all-node, closure-node, comparison-node}
 
 -- an expression's own word is its last
 pub root-last : (e : Expression) (n : ℕ) → root e n < n + size e
@@ -159,6 +161,20 @@ module _ (w : Accepted) (β : Text → ℕ) (loops : List Text) (vs : List ℕ) 
         let b = operand (b-of (getD low k 0)) in
         read-as (n + 3 - 1) k (Nodes.order g a b) σ (omega arith) (order-node low w β loops k g p q (l .1))
         ∙ ap (some-of (λ t. compares g (getD t 0 0) (getD t 1 0))) (sym (readings-same w β loops vs naming (more (l .1 .left) (more (l .1 .right) none)) f))
+    means (matching s p) n c env σ l h f =
+        let a = l .1 .0 in
+        let b = l .1 .1 .0 in
+        let M : ℕ → Bool = λ i. matches (s .text) (getD (w .universe) i []) in
+        let x = half-of (getD low (n + 1) 0) in
+        let y = half-of (getD low (n + 2) 0) in
+        read-as (n + 4 - 1) (n + 3) (Nodes.disjunction (node-at low (n + 1)) (node-at low (n + 2))) σ (omega arith)
+        (disjunction-node low w β loops (n + 3) (n + 1) (n + 2) (l .1 .1 .1) (omega arith) (omega arith))
+        ∙ ap₂ _||_
+        (ap (λ (t : Node). meaning Here t σ) (half-node low w β loops (n + 1) 0 s p a)
+        ∙ some-term w β loops vs naming (λ i. leb 0 i && bit x (i - 0)) (λ i. ltb i 32 && M i) (λ i k. first-half M x u i (omega arith) (a .set) k) (a .term) f)
+        (ap (λ (t : Node). meaning Here t σ) (half-node low w β loops (n + 2) 32 s p b)
+        ∙ some-term w β loops vs naming (λ i. leb 32 i && bit y (i - 32)) (λ i. leb 32 i && M i) (λ i k. second-half M y u i (b .few) (b .set) k) (b .term) f)
+        ∙ some-halves M (Definition.choices w env p)
     means (negation e) n c env σ l h f =
         read-as (n + (size e + 1) - 1) (n + size e) (Nodes.negation (Node-of e n)) σ (omega arith) (negation-node low w β loops (n + size e) (root e n) (l .1) (root-last e n))
         ∙ ap not (means e n c env σ (l .0) h f)

@@ -70,6 +70,11 @@ module _ (w : Accepted) (β : Text → ℕ) (loops : List Text) (vs : List ℕ) 
   some-choices f g h (nothing d e) = rw e (unfold some-of in refl)
   some-choices f g h (each d e) = rw e (some-same f g u h)
 
+  -- one term, and tests that agree on elements
+  pub some-term : (f g : ℕ → Bool) {env : Environment} {σ : List ℕ} {p : Term} {o : Operand} → ((a : ℕ) → a < u → f a ≡ g a) → Stands w β loops p o → Fits w β loops vs (attributes (w .variables) (p ∷ [])) env σ
+      → some-of f (choices u vs σ o) ≡ some-of g (Definition.choices w env p)
+  some-term f g {p = p} {o = o} h s fit = let c = chosen p o [] s fit in some-choices f g h c ∙ ap (some-of g) (sym (choices-same c))
+
   pub readings-same : {ps : List Term} {os : List Operand} {env : Environment} {σ : List ℕ} → Stand w β loops ps os → Fits w β loops vs (attributes (w .variables) ps) env σ
       → Definition.readings w env ps ≡ readings u vs σ os
   unfolding Definition.readings readings

@@ -1,6 +1,6 @@
 -- The words of an expression after lowering. A statement's attributes have slots, its open loop variables the depths of their FORs, and
 -- strings the numbers of their elements; a relation has its place in the store's order, a closure its number among the statement's.
-use Prim.Native.Nat.{ℕ, _+_, _-_, _%_, _<_}
+use Prim.Native.Nat.{ℕ, _+_, _-_, _%_, _<_, _≤_}
 use mathlib.Core.Path.{_≡_}
 use mathlib.Core.Bool.{true, not, cond}
 use mathlib.Core.List.{List, [], _∷_, map}
@@ -8,15 +8,16 @@ use lib.Dec.{T, eqb}
 use lib.ListN.{length, getD}
 use Rattle.definition.specs.Text.{Text, member, some-of, all-of}
 use Rattle.definition.specs.Token.{Token, Sign}
-use Rattle.definition.specs.Syntax.{Term, name, string, anything, Expression, atom, truth, falsity, compare, negation, conjunction, disjunction, implication, equivalence, exists, for-all, closure-of, compare-relations}
+use Rattle.definition.specs.Syntax.{Term, name, string, anything, Expression, atom, truth, falsity, compare, matching, negation, conjunction, disjunction, implication, equivalence, exists, for-all, closure-of, compare-relations}
 use Rattle.definition.specs.Names.{free, join, closures}
 use Rattle.definition.specs.Tables.{bit}
+use Rattle.definition.specs.Pattern.{matches}
 use Rattle.definition.specs.Accept.{Accepted, elements}
 use Rattle.definition.specs.Meaning.{numbers, choices, nowhere}
 use Rattle.definition.proofs.RelationLaws.{place-of, no-relation}
-use Rattle.words.specs.Fields.{kind-of, p-of, q-of, ATOM, TRUTH, FALSITY, ORDER, NEGATION, CONJUNCTION, DISJUNCTION, IMPLICATION, EQUIVALENCE, EXISTS, FOR-ALL, CLOSURE, COMPARISON}
+use Rattle.words.specs.Fields.{kind-of, p-of, q-of, ATOM, TRUTH, FALSITY, ORDER, NEGATION, CONJUNCTION, DISJUNCTION, IMPLICATION, EQUIVALENCE, EXISTS, FOR-ALL, CLOSURE, COMPARISON, MATCH}
 use Rattle.words.specs.Raw.{size, sign-number}
-use Rattle.eval.specs.Nodes.{Operand, element, slot, variable, operand, operands, operands-of, a-of, b-of, c-of, d-of, n-of}
+use Rattle.eval.specs.Nodes.{Operand, element, slot, variable, operand, operands, operands-of, a-of, b-of, c-of, d-of, n-of, half-of}
 use Rattle.eval.specs.Nodes as Nodes
 
 -- the place of an expression's own word, where its words begin at n
@@ -80,6 +81,14 @@ module _ (w : Accepted) (β : Text → ℕ) (loops : List Text) where
       pub left : Stands p (operand (a-of (at k)))
       pub right : Stands q (operand (b-of (at k)))
 
+    -- of the elements that match a pattern, the 32 from b on; there are at most 64
+    pub record Half (k b : ℕ) (s : Token) (p : Term) : Type 0 where
+      pub kind : kind-of (at k) ≡ MATCH
+      pub first : p-of (at k) ≡ b
+      pub set : (i : ℕ) → i < 32 → b + i < elements w → bit (half-of (at k)) i ≡ matches (s .text) (getD (w .universe) (b + i) [])
+      pub few : elements w ≤ 64
+      pub term : Stands p (operand (n-of (at k)))
+
     -- an operator with one child, and with two
     pub record One (k K a : ℕ) : Type 0 where
       pub kind : kind-of (at k) ≡ K
@@ -115,6 +124,7 @@ module _ (w : Accepted) (β : Text → ℕ) (loops : List Text) where
     Lowered (truth ps) n c = Leaves n (length ps) × Truth (n + length ps) ps
     Lowered (falsity ps) n c = Leaves n (length ps) × (kind-of (at (n + length ps)) ≡ FALSITY)
     Lowered (compare g p q) n c = Leaves n 2 × Order (n + 2) g p q
+    Lowered (matching s p) n c = Leaves n 1 × (Half (n + 1) 0 s p × (Half (n + 2) 32 s p × Two (n + 3) DISJUNCTION (n + 1) (n + 2)))
     Lowered (negation e) n c = Lowered e n c × One (n + size e) NEGATION (root e n)
     Lowered (conjunction a b) n c = Lowered a n c × (Lowered b (n + size a) (c + closure-count a) × Two (n + size a + size b) CONJUNCTION (root a n) (root b (n + size a)))
     Lowered (disjunction a b) n c = Lowered a n c × (Lowered b (n + size a) (c + closure-count a) × Two (n + size a + size b) DISJUNCTION (root a n) (root b (n + size a)))

@@ -5,7 +5,7 @@ use mathlib.Core.List.{List, [], _∷_}
 use lib.Dec.{T}
 use lib.ListN.{length, getD}
 use Rattle.definition.specs.Text.{Text, member}
-use Rattle.definition.specs.Syntax.{Expression, atom, truth, falsity, compare, negation, conjunction, disjunction, implication, equivalence, exists, for-all, closure-of, compare-relations}
+use Rattle.definition.specs.Syntax.{Expression, atom, truth, falsity, compare, matching, negation, conjunction, disjunction, implication, equivalence, exists, for-all, closure-of, compare-relations}
 use Rattle.definition.specs.Names.{free}
 use Rattle.definition.specs.Tables.{Tuple, holds, table, closure}
 use Rattle.definition.specs.Accept.{Accepted, elements}
@@ -51,6 +51,7 @@ module _ (w : Accepted) (β : Text → ℕ) (loops : List Text) (vs : List ℕ) 
     Held (truth ps) c = Unit {0}
     Held (falsity ps) c = Unit {0}
     Held (compare g p q) c = Unit {0}
+    Held (matching s p) c = Unit {0}
     Held (negation e) c = Held e c
     Held (conjunction a b) c = Held a c × Held b (c + closure-count a)
     Held (disjunction a b) c = Held a c × Held b (c + closure-count a)

@@ -78,13 +78,16 @@ token-small query ws p i = by (ltb i (length ws)) refl
 module _ (query : Text) (ws : List ℕ) (p : (i : ℕ) → token-at (tokens-of query 0 ws) i .at < 65536) where
   one-numbered : (k i : ℕ) → token-at (tokens-of query 0 ws) i .terminal ≡ terminal-of k i → i < length (tokens-of query 0 ws) → Numbered (tokens-of query 0 ws) p (terminal-of k i)
   unfolding terminal-of
-  one-numbered k i e l = at (ltb k FIRST-SIGN) (eqb k NAME) (eqb k STRING) e
+  one-numbered k i e l = at (ltb k FIRST-SIGN) (eqb k NAME) (eqb k STRING) (eqb k Token.AT) e
     where
-      at : (a b c : Bool) → token-at (tokens-of query 0 ws) i .terminal ≡ (if a then (Token.key k) else if b then (Token.name i) else if c then (Token.string i) else (Token.sign (sign-of k))) → Numbered (tokens-of query 0 ws) p (if a then (Token.key k) else if b then (Token.name i) else if c then (Token.string i) else (Token.sign (sign-of k)))
-      at true b c e = tt
-      at false true c e = (e, l)
-      at false false true e = (e, l)
-      at false false false e = tt
+      at : (a b c d : Bool)
+          → token-at (tokens-of query 0 ws) i .terminal ≡ (if a then (Token.key k) else if b then (Token.name i) else if c then (Token.string i) else if d then (Token.key k) else (Token.sign (sign-of k)))
+          → Numbered (tokens-of query 0 ws) p (if a then (Token.key k) else if b then (Token.name i) else if c then (Token.string i) else if d then (Token.key k) else (Token.sign (sign-of k)))
+      at true b c d e = tt
+      at false true c d e = (e, l)
+      at false false true d e = (e, l)
+      at false false false true e = tt
+      at false false false false e = tt
 
   numbered-from : (n : ℕ) (us : List ℕ) → n + length us ≤ length ws → ((j : ℕ) → j < length us → getD ws (n + j) 0 ≡ getD us j 0) → AllNumbered (tokens-of query 0 ws) p (terminals-of n us)
   unfolding AllNumbered terminals-of

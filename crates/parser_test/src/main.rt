@@ -59,6 +59,17 @@ fn quantifiers() {
     show(b"IF EX(x, y, P(x,y)) { P(); }");
 }
 
+// A pattern: its string, and a term in brackets; it opens no level.
+fn patterns() {
+    show(b"P(x) := @\"^C\"(x);");
+    show(b"P():=!!!!!!!!!!!!!!!!!!!!!!!!!!!!!!!!@\"C\"(_);");
+    show(b"P() := @x(\"C\");");
+    show(b"P() := @\"C\" x;");
+    show(b"P() := @\"C\"();");
+    show(b"P() := @\"C\"(x, y);");
+    show(b"P() := @");
+}
+
 // Row 10: the first token with which no program begins.
 fn refusals() {
     show(b"");
@@ -86,6 +97,7 @@ fn main() {
     plain();
     blocks();
     quantifiers();
+    patterns();
     refusals();
     levels();
 }

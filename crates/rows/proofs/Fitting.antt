@@ -10,11 +10,11 @@ use lib.ListN.{length, getD, length-map}
 use Rattle.definition.specs.Text.{Text, member, all-of, gather}
 use Rattle.definition.specs.Limits.{PRINTED-ATTRIBUTES}
 use Rattle.definition.specs.Token.{Token}
-use Rattle.definition.specs.Syntax.{Term, name, string, anything, Expression, atom, truth, falsity, compare, negation, conjunction, disjunction, implication, equivalence, exists, for-all, closure-of, compare-relations}
+use Rattle.definition.specs.Syntax.{Term, name, string, anything, Expression, atom, truth, falsity, compare, matching, negation, conjunction, disjunction, implication, equivalence, exists, for-all, closure-of, compare-relations}
 use Rattle.definition.specs.Syntax as Syntax
 use Rattle.definition.specs.Syntax.{Item, rows, line-end}
 use Rattle.definition.specs.Names.{Use, attribute-only, variable-only, in-terms, in-expression, in-item, attributes, free, subset, closures, item-expressions}
-use Rattle.words.specs.Fields.{word, kind-of, RELATION-NAME, ATTRIBUTE, TERM, WORD, BIND, RANGE, ASSIGN, TEST, PRINT, ANYTHING, ATOM, TRUTH, FALSITY, ORDER, NEGATION, CONJUNCTION, DISJUNCTION, IMPLICATION, EQUIVALENCE, EXISTS, FOR-ALL, CLOSURE, COMPARISON, ROWS, SAY, LINE-END, STRING}
+use Rattle.words.specs.Fields.{word, kind-of, RELATION-NAME, ATTRIBUTE, TERM, WORD, BIND, RANGE, ASSIGN, TEST, PRINT, ANYTHING, ATOM, TRUTH, FALSITY, ORDER, NEGATION, CONJUNCTION, DISJUNCTION, IMPLICATION, EQUIVALENCE, EXISTS, FOR-ALL, CLOSURE, COMPARISON, MATCH, ROWS, SAY, LINE-END, STRING}
 use Rattle.words.specs.Raw.{number, sign-number, leaf, leaves, size, flat, size-item, flat-item, size-items, flat-items}
 use Rattle.words.specs.Tokens.{OwnName, OwnTerm, OwnTerms, OwnExpression, OwnItem, OwnItems}
 use Rattle.words.proofs.FieldLaws.{kind-word, p-word, q-word}
@@ -144,6 +144,12 @@ module _ (ts : List Token) (few : length ts < 65536) (words fr : List ℕ) (s N 
   fit-expression (falsity ps) n o c l h cl w = fit-last (at fr) (leaves TERM ps) FALSITY _ _ 0 n (omega arith) (λ e. omega arith) (λ e. omega arith) ∙ fit-leaves (at fr) TERM ps n (omega arith)
   fit-expression (compare g p q) n o c l h cl w =
       unfold leaves in fit-last (at fr) (leaves TERM (p ∷ q ∷ [])) ORDER _ _ 0 n (omega arith) (λ e. omega arith) (λ e. omega arith) ∙ fit-leaves (at fr) TERM (p ∷ q ∷ []) n (omega arith)
+  fit-expression (matching t p) n o c l h cl w =
+      unfold leaves in
+      fit-last (at fr) (_ ∷ _ ∷ _ ∷ []) DISJUNCTION _ _ 0 n (omega arith) (λ e. omega arith) (λ e. omega arith)
+      ∙ fit-last (at fr) (_ ∷ _ ∷ []) MATCH _ 32 n n (omega arith) (λ e. omega arith) (λ e. omega arith)
+      ∙ fit-last (at fr) (leaves TERM (p ∷ [])) MATCH _ 0 n n (omega arith) (λ e. omega arith) (λ e. omega arith)
+      ∙ fit-leaves (at fr) TERM (p ∷ []) n (omega arith)
   fit-expression (negation a) n o c l h cl w =
       fit-last (at fr) (flat a n) NEGATION _ 0 0 n (omega arith) (λ e. omega arith) (λ e. omega arith) ∙ fit-expression a n o c l (omega arith) cl (has-one words n _ a w .inner)
   fit-expression (conjunction a b) n o c l h cl w =

@@ -9,7 +9,7 @@ use lib.Dec.{ltb}
 use lib.ListN.{length, getD, length-append}
 use Rattle.definition.specs.Text.{Text, some-of, all-of}
 use Rattle.definition.specs.Names.{closures}
-use Rattle.definition.specs.Syntax.{Expression, atom, truth, falsity, compare, negation, conjunction, disjunction, implication, equivalence, exists, for-all, closure-of, compare-relations}
+use Rattle.definition.specs.Syntax.{Expression, atom, truth, falsity, compare, matching, negation, conjunction, disjunction, implication, equivalence, exists, for-all, closure-of, compare-relations}
 use Rattle.definition.specs.Accept.{Accepted}
 use Rattle.definition.specs.Meaning.{nowhere, choices}
 use Rattle.words.specs.Fields.{kind-of, TRUTH, FALSITY, CLOSURE}
@@ -68,6 +68,8 @@ module _ (w : Accepted) (β : Text → ℕ) (loops : List Text) (low : List ℕ)
   few-closures (truth ps) n c l = then (of-leaves n (length ps) (l .0)) (one (λ e. absurd (truth-kind (all-of (λ p. some-of (λ a. true) (choices w nowhere p)) ps) _ (l .1 .kind) e)))
   few-closures (falsity ps) n c l = one-part (of-leaves n (length ps) (l .0)) (l .1) (λ h. omega arith)
   few-closures (compare g p q) n c l = one-part (of-leaves n 2 (l .0)) (l .1 .kind) (λ h. omega arith)
+  few-closures (matching s p) n c l =
+      one-part (one-part (one-part (of-leaves n 1 (l .0)) (l .1 .0 .kind) (λ h. omega arith)) (l .1 .1 .0 .kind) (λ h. omega arith)) (l .1 .1 .1 .kind) (λ h. omega arith)
   few-closures (negation e) n c l = one-part (few-closures e n c (l .0)) (l .1 .kind) (λ h. omega arith)
   few-closures (conjunction a b) n c l = two-parts (few-closures a n c (l .0)) (few-closures b (n + size a) (c + closure-count a) (l .1 .0)) (l .1 .1 .kind) (λ h. omega arith)
   few-closures (disjunction a b) n c l = two-parts (few-closures a n c (l .0)) (few-closures b (n + size a) (c + closure-count a) (l .1 .0)) (l .1 .1 .kind) (λ h. omega arith)
@@ -94,6 +96,7 @@ module _ (w : Accepted) (β : Text → ℕ) (loops : List Text) (low : List ℕ)
   count-few (truth ps) n c l h = omega arith
   count-few (falsity ps) n c l h = omega arith
   count-few (compare g p q) n c l h = omega arith
+  count-few (matching s p) n c l h = omega arith
   count-few (negation e) n c l h = count-few e n c (l .0) h
   count-few (conjunction a b) n c l h = both a b c (count-few b (n + size a) (c + closure-count a) (l .1 .0) (count-few a n c (l .0) h))
   count-few (disjunction a b) n c l h = both a b c (count-few b (n + size a) (c + closure-count a) (l .1 .0) (count-few a n c (l .0) h))

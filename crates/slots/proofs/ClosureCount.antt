@@ -6,11 +6,11 @@ use native.Mathlib.Omega.{arith}
 use borrow.Author.Tests.{ne-eqb}
 use lib.ListN.{length, length-append}
 use Rattle.definition.specs.Text.{gather}
-use Rattle.definition.specs.Syntax.{Term, name, string, anything, Expression, atom, truth, falsity, compare, negation, conjunction, disjunction, implication, equivalence, exists, for-all, closure-of, compare-relations}
+use Rattle.definition.specs.Syntax.{Term, name, string, anything, Expression, atom, truth, falsity, compare, matching, negation, conjunction, disjunction, implication, equivalence, exists, for-all, closure-of, compare-relations}
 use Rattle.definition.specs.Syntax as Syntax
 use Rattle.definition.specs.Syntax.{Item, rows, line-end}
 use Rattle.definition.specs.Names.{closures, item-expressions}
-use Rattle.words.specs.Fields.{word, RELATION-NAME, ATTRIBUTE, TERM, WORD, ANYTHING, ATOM, TRUTH, FALSITY, ORDER, NEGATION, CONJUNCTION, DISJUNCTION, IMPLICATION, EQUIVALENCE, EXISTS, FOR-ALL, CLOSURE, COMPARISON, ROWS, SAY, LINE-END, STRING}
+use Rattle.words.specs.Fields.{word, RELATION-NAME, ATTRIBUTE, TERM, WORD, ANYTHING, ATOM, TRUTH, FALSITY, ORDER, NEGATION, CONJUNCTION, DISJUNCTION, IMPLICATION, EQUIVALENCE, EXISTS, FOR-ALL, CLOSURE, COMPARISON, MATCH, ROWS, SAY, LINE-END, STRING}
 use Rattle.words.specs.Raw.{number, sign-number, leaves, size, flat, size-item, flat-item, flat-items}
 use Rattle.words.proofs.FieldLaws.{kind-word}
 use Rattle.slots.specs.Slots.{one-closure, closure-count}
@@ -63,6 +63,10 @@ count-expression (atom r ps) n = skip RELATION-NAME _ _ 0 _ (omega arith) (λ e.
 count-expression (truth ps) n = last (leaves TERM ps) TRUTH _ _ 0 (omega arith) (λ e. omega arith) (terms ps)
 count-expression (falsity ps) n = last (leaves TERM ps) FALSITY _ _ 0 (omega arith) (λ e. omega arith) (terms ps)
 count-expression (compare g p q) n = unfold leaves in last (leaves TERM (p ∷ q ∷ [])) ORDER _ _ 0 (omega arith) (λ e. omega arith) (terms (p ∷ q ∷ []))
+count-expression (matching s p) n =
+    unfold leaves in
+    last (_ ∷ _ ∷ _ ∷ []) DISJUNCTION _ _ 0 (omega arith) (λ e. omega arith)
+    (last (_ ∷ _ ∷ []) MATCH _ 32 n (omega arith) (λ e. omega arith) (last (leaves TERM (p ∷ [])) MATCH _ 0 n (omega arith) (λ e. omega arith) (terms (p ∷ []))))
 count-expression (negation e) n = last (flat e n) NEGATION _ 0 0 (omega arith) (λ e. omega arith) (count-expression e n)
 count-expression (conjunction a b) n = two-last _ _ CONJUNCTION _ _ 0 (omega arith) (λ e. omega arith) (count-expression a n) (count-expression b (n + size a)) ∙ both a b refl refl
 count-expression (disjunction a b) n = two-last _ _ DISJUNCTION _ _ 0 (omega arith) (λ e. omega arith) (count-expression a n) (count-expression b (n + size a)) ∙ both a b refl refl

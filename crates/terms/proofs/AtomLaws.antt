@@ -198,9 +198,9 @@ module _ (ws : List ℕ) (p n : ℕ) (A : List ℕ) (t : leaf-in ws p TERM ≡ 0
         }
 
 -- no atom, and nothing that opens a level
-pub no-atom : (ws : List ℕ) (p n : ℕ) (A : List ℕ) → p ≤ length ws → Plain (kind-in ws p) → (kind-in ws p ≡ 14 → ⊥) → (kind-in ws p ≡ 39 → ⊥) → (kind-in ws p ≡ 40 → ⊥) → (41 ≤ kind-in ws p → kind-in ws p ≤ 46 → ⊥) → (kind-in ws p ≡ 47 → ⊥) → (kind-in ws p ≡ 48 → ⊥) → {B : List ℕ} → (d : ℕ) → d ≤ 32 → IsPrimary ws p n d A B (Refused 10 p)
-no-atom ws p n A h b any tru fal sig nam str d l =
-    refused h (no-primary! (not-primary _ (not-name ws p nam) (not-string ws p str) (not-sign ws p sig) (not-key ws p (b .group)) (not-key ws p (b .ex)) (not-key ws p (b .fa)) (not-key ws p (b .tc)) (not-key ws p (b .tcfast)) (not-key ws p tru) (not-key ws p fal) (not-key ws p any)))
+pub no-atom : (ws : List ℕ) (p n : ℕ) (A : List ℕ) → p ≤ length ws → Plain (kind-in ws p) → (kind-in ws p ≡ 14 → ⊥) → (kind-in ws p ≡ 39 → ⊥) → (kind-in ws p ≡ 40 → ⊥) → (41 ≤ kind-in ws p → kind-in ws p ≤ 46 → ⊥) → (kind-in ws p ≡ 47 → ⊥) → (kind-in ws p ≡ 48 → ⊥) → (kind-in ws p ≡ 49 → ⊥) → {B : List ℕ} → (d : ℕ) → d ≤ 32 → IsPrimary ws p n d A B (Refused 10 p)
+no-atom ws p n A h b any tru fal sig nam str pat d l =
+    refused h (no-primary! (not-primary _ (not-name ws p nam) (not-string ws p str) (not-sign ws p sig) (not-key ws p (b .group)) (not-key ws p (b .ex)) (not-key ws p (b .fa)) (not-key ws p (b .tc)) (not-key ws p (b .tcfast)) (not-key ws p tru) (not-key ws p fal) (not-key ws p pat) (not-key ws p any)))
 
 pub truth-small : {t k : ℕ} → Truth t k → k < 256
 truth-small is-true = omega arith

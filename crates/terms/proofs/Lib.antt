@@ -5,3 +5,4 @@ pub mod LeafLaws
 pub mod ListLaws
 pub mod TermsLaws
 pub mod AtomLaws
+pub mod PatternLaws

@@ -28,17 +28,17 @@ kind-here [] p h = absurd (omega arith)
 kind-here (w ∷ ws) zero h = refl
 kind-here (w ∷ ws) (suc p) h = kind-here ws p (omega arith)
 
-pub kind-low : (ws : List ℕ) (p : ℕ) → p < length ws → kind-of (getD ws p 0) < 49 → kind-of (getD ws p 0) ≡ kind-in ws p
-kind-low ws p h i = sym (kind-here ws p h ∙ ap (λ b. if b then (kind-of (getD ws p 0)) else 46) (lt-ltb (kind-of (getD ws p 0)) 49 i))
+pub kind-low : (ws : List ℕ) (p : ℕ) → p < length ws → kind-of (getD ws p 0) < 50 → kind-of (getD ws p 0) ≡ kind-in ws p
+kind-low ws p h i = sym (kind-here ws p h ∙ ap (λ b. if b then (kind-of (getD ws p 0)) else 46) (lt-ltb (kind-of (getD ws p 0)) 50 i))
 
-pub kind-high : (ws : List ℕ) (p : ℕ) → p < length ws → 49 ≤ kind-of (getD ws p 0) → 46 ≡ kind-in ws p
-kind-high ws p h i = sym (kind-here ws p h ∙ ap (λ b. if b then (kind-of (getD ws p 0)) else 46) (le-ltb (kind-of (getD ws p 0)) 49 i))
+pub kind-high : (ws : List ℕ) (p : ℕ) → p < length ws → 50 ≤ kind-of (getD ws p 0) → 46 ≡ kind-in ws p
+kind-high ws p h i = sym (kind-here ws p h ∙ ap (λ b. if b then (kind-of (getD ws p 0)) else 46) (le-ltb (kind-of (getD ws p 0)) 50 i))
 
-usual-small : (k : ℕ) → usual k ≤ 48
-usual-small k = at (ltb k 49) refl
+usual-small : (k : ℕ) → usual k ≤ 49
+usual-small k = at (ltb k 50) refl
   where
-    at : (b : Bool) → ltb k 49 ≡ b → (if b then k else 46) ≤ 48
-    at true e = let h = ltb-true k 49 e in omega arith
+    at : (b : Bool) → ltb k 50 ≡ b → (if b then k else 46) ≤ 49
+    at true e = let h = ltb-true k 50 e in omega arith
     at false e = omega arith
 
 -- a kind that is one of a token
@@ -48,8 +48,8 @@ kind-within [] p h = absurd (omega arith)
 kind-within (w ∷ ws) zero h = omega arith
 kind-within (w ∷ ws) (suc p) h = let i = kind-within ws p h in omega arith
 
-pub kind-small : (ws : List ℕ) (p : ℕ) → p < length ws → kind-in ws p ≤ 48
-kind-small ws p h = subst (λ k. k ≤ 48) (sym (kind-here ws p h)) (usual-small (kind-of (getD ws p 0)))
+pub kind-small : (ws : List ℕ) (p : ℕ) → p < length ws → kind-in ws p ≤ 49
+kind-small ws p h = subst (λ k. k ≤ 49) (sym (kind-here ws p h)) (usual-small (kind-of (getD ws p 0)))
 
 -- the terminals of the kinds
 pub key-terminal : (k i : ℕ) → k < 41 → terminal-of k i ≡ key k
@@ -64,22 +64,26 @@ pub string-terminal : (i : ℕ) → terminal-of 48 i ≡ string i
 unfolding terminal-of
 string-terminal i = refl
 
-pub sign-terminal : (k i : ℕ) → 41 ≤ k → (k ≡ 47 → ⊥) → (k ≡ 48 → ⊥) → terminal-of k i ≡ sign (sign-of k)
+pub at-terminal : (i : ℕ) → terminal-of 49 i ≡ key 49
 unfolding terminal-of
-sign-terminal k i h a b = simp (le-ltb k 41 h, ne-eqb k 47 a, ne-eqb k 48 b)
+at-terminal i = refl
+
+pub sign-terminal : (k i : ℕ) → 41 ≤ k → (k ≡ 47 → ⊥) → (k ≡ 48 → ⊥) → (k ≡ 49 → ⊥) → terminal-of k i ≡ sign (sign-of k)
+unfolding terminal-of
+sign-terminal k i h a b c = simp (le-ltb k 41 h, ne-eqb k 47 a, ne-eqb k 48 b, ne-eqb k 49 c)
 
 big-sign : (k : ℕ) → 46 ≤ k → sign-of k ≡ at-least
 unfolding sign-of
 big-sign k h = simp (ne-eqb k 41 (λ e. omega arith), ne-eqb k 42 (λ e. omega arith), ne-eqb k 43 (λ e. omega arith), ne-eqb k 44 (λ e. omega arith), ne-eqb k 45 (λ e. omega arith))
 
 usual-terminal : (k i : ℕ) → terminal-of k i ≡ terminal-of (usual k) i
-usual-terminal k i = at (ltb k 49) refl
+usual-terminal k i = at (ltb k 50) refl
   where
-    at : (b : Bool) → ltb k 49 ≡ b → terminal-of k i ≡ terminal-of (if b then k else 46) i
+    at : (b : Bool) → ltb k 50 ≡ b → terminal-of k i ≡ terminal-of (if b then k else 46) i
     at true e = refl
     at false e =
-        let h = ltb-false k 49 e in
-        sign-terminal k i (omega arith) (λ i. omega arith) (λ i. omega arith) ∙ ap sign (big-sign k (omega arith)) ∙ sym (sign-terminal 46 i (omega arith) (λ i. omega arith) (λ i. omega arith) ∙ ap sign (big-sign 46 (omega arith)))
+        let h = ltb-false k 50 e in
+        sign-terminal k i (omega arith) (λ i. omega arith) (λ i. omega arith) (λ i. omega arith) ∙ ap sign (big-sign k (omega arith)) ∙ sym (sign-terminal 46 i (omega arith) (λ i. omega arith) (λ i. omega arith) (λ i. omega arith) ∙ ap sign (big-sign 46 (omega arith)))
 
 first-from : (ws : List ℕ) (p i : ℕ) → p < length ws → drop p (terminals-of i ws) ≡ terminal-of (kind-in ws p) (p + i) ∷ drop (suc p) (terminals-of i ws)
 unfolding kind-in terminals-of
@@ -111,8 +115,14 @@ module _ (ws : List ℕ) (p : ℕ) where
   pub string-first : kind-in ws p ≡ 48 → drop p (seen ws) ≡ string p ∷ drop (p + 1) (seen ws)
   string-first e = at-kind 48 e (omega arith) ∙ ap (λ t. t ∷ drop (p + 1) (seen ws)) (string-terminal p)
 
+  pub string-then : (r : ℕ) → p + 1 ≡ r → kind-in ws p ≡ 48 → drop p (seen ws) ≡ string p ∷ drop r (seen ws)
+  string-then r i e = string-first e ∙ ap (λ j. string p ∷ drop j (seen ws)) i
+
+  pub at-first : kind-in ws p ≡ 49 → drop p (seen ws) ≡ key 49 ∷ drop (p + 1) (seen ws)
+  at-first e = at-kind 49 e (omega arith) ∙ ap (λ t. t ∷ drop (p + 1) (seen ws)) (at-terminal p)
+
   pub sign-first : 41 ≤ kind-in ws p → kind-in ws p ≤ 46 → drop p (seen ws) ≡ sign (sign-of (kind-in ws p)) ∷ drop (p + 1) (seen ws)
-  sign-first h i = at-kind (kind-in ws p) refl (omega arith) ∙ ap (λ t. t ∷ drop (p + 1) (seen ws)) (sign-terminal (kind-in ws p) p h (λ e. omega arith) (λ e. omega arith))
+  sign-first h i = at-kind (kind-in ws p) refl (omega arith) ∙ ap (λ t. t ∷ drop (p + 1) (seen ws)) (sign-terminal (kind-in ws p) p h (λ e. omega arith) (λ e. omega arith) (λ e. omega arith))
 
 -- the number of a sign among the six
 pub sign-code : (k : ℕ) → 41 ≤ k → k ≤ 46 → sign-number (sign-of k) + 41 ≡ k
@@ -145,16 +155,17 @@ code a-string = 48
 code (a-sign g) = sign-number g + 41
 code (a-key k) = k
 
-code-of : (k i : ℕ) (l : List Terminal) → k ≤ 48 → code (next (terminal-of k i ∷ l)) ≡ k
-code-of k i l h = at (ltb k 41) refl (eqb k 47) refl (eqb k 48) refl
+code-of : (k i : ℕ) (l : List Terminal) → k ≤ 49 → code (next (terminal-of k i ∷ l)) ≡ k
+code-of k i l h = at (ltb k 41) refl (eqb k 47) refl (eqb k 48) refl (eqb k 49) refl
   where
-    at : (a : Bool) → ltb k 41 ≡ a → (b : Bool) → eqb k 47 ≡ b → (c : Bool) → eqb k 48 ≡ c → code (next (terminal-of k i ∷ l)) ≡ k
-    at true x b y c z = ap (λ t. code (next (t ∷ l))) (key-terminal k i (ltb-true k 41 x))
-    at false x true y c z = let e = eqb-true k 47 y in ap (λ t. code (next (t ∷ l))) (ap (λ j. terminal-of j i) e ∙ name-terminal i) ∙ sym e
-    at false x false y true z = let e = eqb-true k 48 z in ap (λ t. code (next (t ∷ l))) (ap (λ j. terminal-of j i) e ∙ string-terminal i) ∙ sym e
-    at false x false y false z =
-        let g = ltb-false k 41 x in let m = eqb-false k 47 y in let n = eqb-false k 48 z in
-        ap (λ t. code (next (t ∷ l))) (sign-terminal k i g m n) ∙ sign-code k g (omega arith)
+    at : (a : Bool) → ltb k 41 ≡ a → (b : Bool) → eqb k 47 ≡ b → (c : Bool) → eqb k 48 ≡ c → (d : Bool) → eqb k 49 ≡ d → code (next (terminal-of k i ∷ l)) ≡ k
+    at true x b y c z d u = ap (λ t. code (next (t ∷ l))) (key-terminal k i (ltb-true k 41 x))
+    at false x true y c z d u = let e = eqb-true k 47 y in ap (λ t. code (next (t ∷ l))) (ap (λ j. terminal-of j i) e ∙ name-terminal i) ∙ sym e
+    at false x false y true z d u = let e = eqb-true k 48 z in ap (λ t. code (next (t ∷ l))) (ap (λ j. terminal-of j i) e ∙ string-terminal i) ∙ sym e
+    at false x false y false z true u = let e = eqb-true k 49 u in ap (λ t. code (next (t ∷ l))) (ap (λ j. terminal-of j i) e ∙ at-terminal i) ∙ sym e
+    at false x false y false z false u =
+        let g = ltb-false k 41 x in let m = eqb-false k 47 y in let n = eqb-false k 48 z in let o = eqb-false k 49 u in
+        ap (λ t. code (next (t ∷ l))) (sign-terminal k i g m n o) ∙ sign-code k g (omega arith)
 
 drop-past : (ws : List ℕ) (p i : ℕ) → length ws ≤ p → drop p (terminals-of i ws) ≡ []
 unfolding terminals-of

@@ -39,6 +39,14 @@ wrote-before {A} {A₁} {n} {m} {xs} f w = let e : n + 1 ≡ suc n = omega arith
 pub wrote-as : {A A₁ : List ℕ} {n m : ℕ} {xs ys : List ℕ} → xs ≡ ys → Wrote A n xs m A₁ → Wrote A n ys m A₁
 wrote-as e f = rw e at f
 
--- three words in a row
+-- three words in a row, and four
 pub three : (A : List ℕ) (n x y z w : ℕ) → z ≡ w → set (set (set A n x) (n + 1) y) (n + 2) z ≡ sets A n (x ∷ y ∷ w ∷ [])
 three A n x y z w e = let f : n + 1 ≡ suc n = omega arith in let g : n + 2 ≡ suc (suc n) = omega arith in ap (λ i. set (set (set A n x) i y) (n + 2) z) f ∙ ap (λ i. set (set (set A n x) (suc n) y) i z) g ∙ ap (set (set (set A n x) (suc n) y) (suc (suc n))) e
+
+pub four : (A : List ℕ) (n x y z w y′ z′ w′ : ℕ) → y ≡ y′ → z ≡ z′ → w ≡ w′ → set (set (set (set A n x) (n + 1) y) (n + 2) z) (n + 3) w ≡ sets A n (x ∷ y′ ∷ z′ ∷ w′ ∷ [])
+four A n x y z w y′ z′ w′ e f g =
+    let i : n + 3 ≡ suc (suc (suc n)) = omega arith in
+    ap (λ a. set (set (set (set A n x) (n + 1) a) (n + 2) z) (n + 3) w) e
+    ∙ ap (λ B. set B (n + 3) w) (three A n x y′ z z′ f)
+    ∙ ap (λ j. set (sets A n (x ∷ y′ ∷ z′ ∷ [])) j w) i
+    ∙ ap (set (sets A n (x ∷ y′ ∷ z′ ∷ [])) (suc (suc (suc n)))) g

@@ -28,7 +28,7 @@ seen ws = terminals-of 0 ws
 
 -- a kind that there is none of counts as the last sign
 abbrev pub usual : ℕ → ℕ
-usual k = if ltb k 49 then k else 46
+usual k = if ltb k 50 then k else 46
 
 -- the kind of the token at p; 64 past the last
 unfoldable pub kind-in : List ℕ → ℕ → ℕ

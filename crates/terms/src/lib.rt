@@ -24,7 +24,7 @@ pub fn kind_at(tokens: &[u64], p: usize) -> u64
         return 64;
     }
     let k = tokens[p] % 64;
-    if k < 49 { k } else { 46 }
+    if k < 50 { k } else { 46 }
 }
 
 // After what stands in brackets: the closing one, a token of the given kind.
@@ -181,6 +181,39 @@ fn sign_between(tokens: &[u64], words: &mut [u64], p: usize, n: usize) -> Answer
     Answer::Read(p + 3, n + 3)
 }
 
+// A term, each half of the elements that match the pattern of token s, and the disjunction over both halves.
+fn halves(words: &mut [u64], n: usize, x: u64, s: usize)
+    requires { ⌜ (s < 65536) × ((n + 2 < 65536) × (n + 3 < length (now words))) ⌝ }
+    ensures { λ _. ⌜ now (words .exit) ≡ sets (now (words .entry)) n (x ∷ word 23 s 0 n ∷ word 23 s 32 n ∷ word 16 (n + 1) (n + 2) 0 ∷ []) ⌝ }
+{
+    words[n] = x;
+    words[n + 1] = pack(23, s as u64, 0, n as u64);
+    words[n + 2] = pack(23, s as u64, 32, n as u64);
+    words[n + 3] = pack(16, (n + 1) as u64, (n + 2) as u64, 0);
+}
+
+// "@" at p: a pattern, and a term in brackets.
+fn pattern(tokens: &[u64], words: &mut [u64], p: usize, n: usize) -> Answer
+    requires { ⌜ (kind-in (now tokens) p ≡ 49) × Room (now tokens) (length (now words)) p n 0 ⌝ }
+    ensures { λ r. ⌜ ((d : ℕ) → d ≤ 32 → IsPrimary (now (tokens .entry)) p n d (now (words .entry)) (now (words .exit)) r) ⌝ }
+{
+    if kind_at(tokens, p + 1) != 48 {
+        return Answer::Refused(10, p + 1);
+    }
+    if kind_at(tokens, p + 2) != 0 {
+        return Answer::Refused(10, p + 2);
+    }
+    let x = leaf_at(tokens, p + 3, 3);
+    if x == 0 {
+        return Answer::Refused(10, p + 3);
+    }
+    if kind_at(tokens, p + 4) != 1 {
+        return Answer::Refused(10, p + 4);
+    }
+    halves(words, n, x, p + 1);
+    Answer::Read(p + 5, n + 4)
+}
+
 // A name's atom: its terms in brackets, or its comparison with a term.
 fn named(tokens: &[u64], words: &mut [u64], p: usize, n: usize) -> Answer
     requires { ⌜ (kind-in (now tokens) p ≡ 47) × Room (now tokens) (length (now words)) p n 0 ⌝ }
@@ -193,7 +226,7 @@ fn named(tokens: &[u64], words: &mut [u64], p: usize, n: usize) -> Answer
     }
 }
 
-// An atom: a relation's name, TRUE or FALSE with terms, or a sign with two terms.
+// An atom: a relation's name, TRUE or FALSE with terms, a sign with two terms, or a pattern with one.
 pub fn atom(tokens: &[u64], words: &mut [u64], p: usize, n: usize) -> Answer
     requires { ⌜ Plain (kind-in (now tokens) p) × Room (now tokens) (length (now words)) p n 0 ⌝ }
     ensures { λ r. ⌜ ((d : ℕ) → d ≤ 32 → IsPrimary (now (tokens .entry)) p n d (now (words .entry)) (now (words .exit)) r) ⌝ }
@@ -204,6 +237,7 @@ pub fn atom(tokens: &[u64], words: &mut [u64], p: usize, n: usize) -> Answer
         40 => truth(tokens, words, p, n, 12),
         41..=46 => sign_before(tokens, words, p, n),
         47 => named(tokens, words, p, n),
+        49 => pattern(tokens, words, p, n),
         _ => Answer::Refused(10, p),
     }
 }

@@ -9,11 +9,11 @@ use lib.ListN.{length, getD, take, drop}
 use Rattle.definition.specs.Text.{Text}
 use Rattle.definition.specs.Token.{Token}
 use Rattle.definition.specs.Facts.{Element}
-use Rattle.definition.specs.Syntax.{Term, name, string, anything, Expression, atom, truth, falsity, compare, negation, conjunction, disjunction, implication, equivalence, exists, for-all, closure-of, compare-relations}
+use Rattle.definition.specs.Syntax.{Term, name, string, anything, Expression, atom, truth, falsity, compare, matching, negation, conjunction, disjunction, implication, equivalence, exists, for-all, closure-of, compare-relations}
 use Rattle.definition.specs.Syntax as Syntax
 use Rattle.definition.specs.Syntax.{Item, rows, line-end, Program, end, assign, print, test, while, for, block}
 use Rattle.definition.specs.Names.{strings, left-strings}
-use Rattle.words.specs.Fields.{word, kind-of, p-of, RELATION-NAME, ATTRIBUTE, TERM, WORD, BIND, RANGE, NEXT, ANYTHING, ATOM, TRUTH, FALSITY, ORDER, NEGATION, CONJUNCTION, DISJUNCTION, IMPLICATION, EQUIVALENCE, EXISTS, FOR-ALL, CLOSURE, COMPARISON, ROWS, SAY, LINE-END, ASSIGN, TEST, JUMP, AGAIN, PRINT, STRING}
+use Rattle.words.specs.Fields.{word, kind-of, p-of, RELATION-NAME, ATTRIBUTE, TERM, WORD, BIND, RANGE, NEXT, ANYTHING, ATOM, TRUTH, FALSITY, ORDER, NEGATION, CONJUNCTION, DISJUNCTION, IMPLICATION, EQUIVALENCE, EXISTS, FOR-ALL, CLOSURE, COMPARISON, MATCH, ROWS, SAY, LINE-END, ASSIGN, TEST, JUMP, AGAIN, PRINT, STRING}
 use Rattle.words.specs.Raw.{number, leaves, size, flat, flat-item, size-items, flat-items, size-program, flat-program}
 use Rattle.words.specs.Tokens.{OwnString, OwnTerms, OwnProgram}
 use Rattle.words.proofs.FieldLaws.{kind-word, p-word}
@@ -88,6 +88,9 @@ module _ (query : Text) (tokens : List ℕ) where
   expression (truth ps) n = last TRUTH n _ 0 (λ e. omega arith) (omega arith) (terms ps)
   expression (falsity ps) n = last FALSITY n _ 0 (λ e. omega arith) (omega arith) (terms ps)
   expression (compare g p q) n = unfold leaves in last ORDER n _ 0 (λ e. omega arith) (omega arith) (terms (p ∷ q ∷ []))
+  expression (matching s p) n =
+      unfold leaves in
+      last DISJUNCTION _ _ 0 (λ e. omega arith) (omega arith) (last MATCH _ 32 n (λ e. omega arith) (omega arith) (last MATCH _ 0 n (λ e. omega arith) (omega arith) (terms (p ∷ []))))
   expression (negation e) n = last NEGATION _ 0 0 (λ e. omega arith) (omega arith) (expression e n)
   expression (conjunction a b) n = two-last CONJUNCTION _ _ 0 (λ e. omega arith) (omega arith) (expression a n) (expression b _)
   expression (disjunction a b) n = two-last DISJUNCTION _ _ 0 (λ e. omega arith) (omega arith) (expression a n) (expression b _)

@@ -7,10 +7,10 @@ use native.Mathlib.Omega.{arith}
 use borrow.Author.Tests.{eqb-true, eqb-false}
 use lib.Dec.{eqb}
 use lib.ListN.{length, getD}
-use Rattle.definition.specs.Syntax.{Term, name, string, anything, Expression, atom, truth, falsity, compare, negation, conjunction, disjunction, implication, equivalence, exists, for-all, closure-of, compare-relations}
+use Rattle.definition.specs.Syntax.{Term, name, string, anything, Expression, atom, truth, falsity, compare, matching, negation, conjunction, disjunction, implication, equivalence, exists, for-all, closure-of, compare-relations}
 use Rattle.definition.specs.Syntax as Syntax
 use Rattle.definition.specs.Syntax.{Item, rows, line-end}
-use Rattle.words.specs.Fields.{word, kind-of, RELATION-NAME, ATTRIBUTE, TERM, WORD, ANYTHING, ATOM, TRUTH, FALSITY, ORDER, NEGATION, CONJUNCTION, DISJUNCTION, IMPLICATION, EQUIVALENCE, EXISTS, FOR-ALL, CLOSURE, COMPARISON, ROWS, SAY, LINE-END, STRING}
+use Rattle.words.specs.Fields.{word, kind-of, RELATION-NAME, ATTRIBUTE, TERM, WORD, ANYTHING, ATOM, TRUTH, FALSITY, ORDER, NEGATION, CONJUNCTION, DISJUNCTION, IMPLICATION, EQUIVALENCE, EXISTS, FOR-ALL, CLOSURE, COMPARISON, MATCH, ROWS, SAY, LINE-END, STRING}
 use Rattle.words.specs.Raw.{number, sign-number, leaves, size, flat, size-item, flat-item, flat-items}
 use Rattle.words.specs.Standing.{Has}
 use Rattle.words.proofs.FieldLaws.{kind-word}
@@ -52,7 +52,7 @@ module _ (P : ℕ → Type 0) where
   -- names and strings, by what their place takes, and the kinds of "_" and of expressions
   pub record Inner : Type 0 where
     pub names : (k : ℕ) → 0 < k → k < 5 → P k × P (STRING + k)
-    pub nodes : (k : ℕ) → 9 ≤ k → k < 23 → P k
+    pub nodes : (k : ℕ) → 9 ≤ k → k < 24 → P k
 
   module _ (I : Inner) where
     pub each-leaves : (k : ℕ) (ps : List Term) → 0 < k → k < 5 → Each (leaves k ps)
@@ -66,10 +66,10 @@ module _ (P : ℕ → Type 0) where
     each-terms ps = each-leaves TERM ps (omega arith) (omega arith)
 
     -- a word after one or two operands
-    over-one : (xs : List ℕ) (k p q r : ℕ) → 9 ≤ k → k < 23 → Each xs → Each (xs ++ (word k p q r ∷ []))
+    over-one : (xs : List ℕ) (k p q r : ℕ) → 9 ≤ k → k < 24 → Each xs → Each (xs ++ (word k p q r ∷ []))
     over-one xs k p q r l h o = each-last xs k p q r (omega arith) (I .nodes k l h) o
 
-    over-two : (xs ys : List ℕ) (k p q r : ℕ) → 9 ≤ k → k < 23 → Each xs → Each ys → Each (xs ++ (ys ++ (word k p q r ∷ [])))
+    over-two : (xs ys : List ℕ) (k p q r : ℕ) → 9 ≤ k → k < 24 → Each xs → Each ys → Each (xs ++ (ys ++ (word k p q r ∷ [])))
     over-two xs ys k p q r l h o o′ = each-two xs ys k p q r (omega arith) (I .nodes k l h) o o′
 
     named : (k p q : ℕ) (ws : List ℕ) → 0 < k → k < 5 → Each ws → Each (word k p q 0 ∷ ws)
@@ -81,6 +81,11 @@ module _ (P : ℕ → Type 0) where
     each-expression (truth ps) n = over-one (leaves TERM ps) TRUTH _ _ 0 (omega arith) (omega arith) (each-terms ps)
     each-expression (falsity ps) n = over-one (leaves TERM ps) FALSITY _ _ 0 (omega arith) (omega arith) (each-terms ps)
     each-expression (compare g p q) n = unfold leaves in over-one (leaves TERM (p ∷ q ∷ [])) ORDER _ _ 0 (omega arith) (omega arith) (each-terms (p ∷ q ∷ []))
+    each-expression (matching s p) n =
+        unfold leaves in
+        over-one (_ ∷ _ ∷ _ ∷ []) DISJUNCTION _ _ 0 (omega arith) (omega arith)
+        (over-one (_ ∷ _ ∷ []) MATCH _ 32 n (omega arith) (omega arith)
+        (over-one (leaves TERM (p ∷ [])) MATCH _ 0 n (omega arith) (omega arith) (each-terms (p ∷ []))))
     each-expression (negation e) n = over-one (flat e n) NEGATION _ 0 0 (omega arith) (omega arith) (each-expression e n)
     each-expression (conjunction a b) n = over-two _ _ CONJUNCTION _ _ 0 (omega arith) (omega arith) (each-expression a n) (each-expression b (n + size a))
     each-expression (disjunction a b) n = over-two _ _ DISJUNCTION _ _ 0 (omega arith) (omega arith) (each-expression a n) (each-expression b (n + size a))

@@ -6,11 +6,11 @@ use native.Mathlib.Omega.{arith}
 use lib.ListN.{length}
 use Rattle.definition.specs.Text.{gather}
 use Rattle.definition.specs.Token.{Token}
-use Rattle.definition.specs.Syntax.{Term, name, string, anything, Expression, atom, truth, falsity, compare, negation, conjunction, disjunction, implication, equivalence, exists, for-all, closure-of, compare-relations}
+use Rattle.definition.specs.Syntax.{Term, name, string, anything, Expression, atom, truth, falsity, compare, matching, negation, conjunction, disjunction, implication, equivalence, exists, for-all, closure-of, compare-relations}
 use Rattle.definition.specs.Syntax as Syntax
 use Rattle.definition.specs.Syntax.{Item, rows, line-end, Program, end, assign, print, test, while, for, block}
 use Rattle.definition.specs.Names.{Role, attribute-only, term, variable-only, Use, use-as, in-terms, in-expression, in-item, in-program}
-use Rattle.words.specs.Fields.{word, kind-of, RELATION-NAME, ATTRIBUTE, TERM, WORD, BIND, RANGE, NEXT, ANYTHING, ATOM, TRUTH, FALSITY, ORDER, NEGATION, CONJUNCTION, DISJUNCTION, IMPLICATION, EQUIVALENCE, EXISTS, FOR-ALL, CLOSURE, COMPARISON, ROWS, SAY, LINE-END, ASSIGN, TEST, JUMP, AGAIN, PRINT, STRING}
+use Rattle.words.specs.Fields.{word, kind-of, RELATION-NAME, ATTRIBUTE, TERM, WORD, BIND, RANGE, NEXT, ANYTHING, ATOM, TRUTH, FALSITY, ORDER, NEGATION, CONJUNCTION, DISJUNCTION, IMPLICATION, EQUIVALENCE, EXISTS, FOR-ALL, CLOSURE, COMPARISON, MATCH, ROWS, SAY, LINE-END, ASSIGN, TEST, JUMP, AGAIN, PRINT, STRING}
 use Rattle.words.specs.Raw.{number, sign-number, leaves, size, flat, size-item, flat-item, size-items, flat-items, size-program, flat-program}
 use Rattle.words.specs.Tokens.{OwnName, OwnTerms, OwnExpression, OwnItem, OwnItems, OwnProgram}
 use Rattle.words.specs.Shown.{role-of, Shows, none, other, named}
@@ -56,6 +56,10 @@ module _ (ts : List Token) (few : length ts < 65536) where
   expression-uses (truth ps) n h o = last TRUTH n (length ps) 0 (omega arith) (omega arith) (terms-uses ps o)
   expression-uses (falsity ps) n h o = last FALSITY n (length ps) 0 (omega arith) (omega arith) (terms-uses ps o)
   expression-uses (compare g p q) n h o = unfold leaves in last ORDER n (sign-number g) 0 (omega arith) (omega arith) (terms-uses (p ∷ q ∷ []) o)
+  expression-uses (matching s p) n h o =
+      unfold leaves in
+      last DISJUNCTION _ _ 0 (omega arith) (omega arith)
+      (last MATCH _ 32 n (omega arith) (omega arith) (last MATCH _ 0 n (omega arith) (omega arith) (terms-uses (p ∷ []) (o .1))))
   expression-uses (negation e) n h o = last NEGATION (n + size e - 1) 0 0 (omega arith) (omega arith) (expression-uses e n (omega arith) o)
   expression-uses (conjunction a b) n h o =
       two-last CONJUNCTION _ _ 0 (omega arith) (omega arith) (expression-uses a n (omega arith) (o .0)) (expression-uses b _ (omega arith) (o .1))

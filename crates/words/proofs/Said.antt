@@ -144,5 +144,6 @@ module _ (ts : List Token) (places : (i : ℕ) → token-at ts i .at < 65536) wh
       let t = split (Grammar.flat b) _ (s .1 .1) in
       (said a (s .0), (said b (t .0), tt))
   said (Tree.sign-between a g b) h = let s = split (Grammar.flat a) _ h in (said a (s .0), (said b (s .1 .1), tt))
+  said (Tree.pattern-atom x a) h = let s = split (Grammar.flat a) _ (h .1 .1 .1) in (own-string x (h .1 .0), (said a (s .0), tt))
   said (Tree.one-more-attribute x q) h = λ f k. k _ _ (own-name x (h .0)) (said q (h .1 .1) f k)
   said (Tree.quantified-body e) h = λ f k. said e h

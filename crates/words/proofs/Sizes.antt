@@ -4,7 +4,7 @@ use mathlib.Core.Path.{_≡_, refl, ap}
 use mathlib.Core.List.{List, [], _∷_}
 use native.Mathlib.Omega.{arith}
 use lib.ListN.{length, length-append}
-use Rattle.definition.specs.Syntax.{Term, Expression, atom, truth, falsity, compare, negation, conjunction, disjunction, implication, equivalence, exists, for-all, closure-of, compare-relations}
+use Rattle.definition.specs.Syntax.{Term, Expression, atom, truth, falsity, compare, matching, negation, conjunction, disjunction, implication, equivalence, exists, for-all, closure-of, compare-relations}
 use Rattle.definition.specs.Syntax.{Item, rows, word, line-end, Program, end, assign, print, test, while, for, block}
 use Rattle.words.specs.Raw.{leaves, size, flat, size-item, flat-item, size-items, flat-items, size-program, flat-program}
 
@@ -19,6 +19,7 @@ length-flat (atom r ps) n = simp (length-append, length-leaves) (omega arith)
 length-flat (truth ps) n = simp (length-append, length-leaves)
 length-flat (falsity ps) n = simp (length-append, length-leaves)
 length-flat (compare g p q) n = refl
+length-flat (matching s p) n = refl
 length-flat (negation e) n = simp (length-append, length-flat e n)
 length-flat (conjunction a b) n = simp (length-append, length-flat a n, length-flat b (n + size a)) (omega arith)
 length-flat (disjunction a b) n = simp (length-append, length-flat a n, length-flat b (n + size a)) (omega arith)
@@ -35,6 +36,7 @@ size-pos (atom r ps) = omega arith
 size-pos (truth ps) = omega arith
 size-pos (falsity ps) = omega arith
 size-pos (compare g p q) = omega arith
+size-pos (matching s p) = omega arith
 size-pos (negation e) = omega arith
 size-pos (conjunction a b) = omega arith
 size-pos (disjunction a b) = omega arith

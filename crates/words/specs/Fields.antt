@@ -83,6 +83,10 @@ CLOSURE = 21
 abbrev pub COMPARISON : ℕ
 COMPARISON = 22
 
+-- half of the elements that match a pattern
+abbrev pub MATCH : ℕ
+MATCH = 23
+
 -- items
 abbrev pub ROWS : ℕ
 ROWS = 30

@@ -5,10 +5,10 @@ use mathlib.Core.List.{List, [], _∷_, _++_}
 use lib.ListN.{length}
 use Rattle.definition.specs.Token as Token
 use Rattle.definition.specs.Token.{Sign, equal, unequal, less, at-most, greater, at-least, Terminal, Token}
-use Rattle.definition.specs.Syntax.{Term, name, string, anything, Expression, atom, truth, falsity, compare, negation, conjunction, disjunction, implication, equivalence, exists, for-all, closure-of, compare-relations}
+use Rattle.definition.specs.Syntax.{Term, name, string, anything, Expression, atom, truth, falsity, compare, matching, negation, conjunction, disjunction, implication, equivalence, exists, for-all, closure-of, compare-relations}
 use Rattle.definition.specs.Syntax as Syntax
 use Rattle.definition.specs.Syntax.{Item, rows, line-end, Program, end, assign, print, test, while, for, block}
-use Rattle.words.specs.Fields.{word, RELATION-NAME, ATTRIBUTE, TERM, WORD, BIND, RANGE, NEXT, ANYTHING, ATOM, TRUTH, FALSITY, ORDER, NEGATION, CONJUNCTION, DISJUNCTION, IMPLICATION, EQUIVALENCE, EXISTS, FOR-ALL, CLOSURE, COMPARISON, ROWS, SAY, LINE-END, ASSIGN, TEST, JUMP, AGAIN, PRINT, STRING}
+use Rattle.words.specs.Fields.{word, RELATION-NAME, ATTRIBUTE, TERM, WORD, BIND, RANGE, NEXT, ANYTHING, ATOM, TRUTH, FALSITY, ORDER, NEGATION, CONJUNCTION, DISJUNCTION, IMPLICATION, EQUIVALENCE, EXISTS, FOR-ALL, CLOSURE, COMPARISON, MATCH, ROWS, SAY, LINE-END, ASSIGN, TEST, JUMP, AGAIN, PRINT, STRING}
 
 -- an identifier's or a string's number among the tokens
 abbrev pub terminal-number : Terminal → ℕ
@@ -44,6 +44,7 @@ size (atom r ps) = length ps + 2
 size (truth ps) = length ps + 1
 size (falsity ps) = length ps + 1
 size (compare g p q) = 3
+size (matching s p) = 4
 size (negation e) = size e + 1
 size (conjunction a b) = size a + size b + 1
 size (disjunction a b) = size a + size b + 1
@@ -59,12 +60,14 @@ abbrev pub over : ℕ → ℕ → ℕ → ℕ → ℕ
 over k m l r = word k (m - 1) (l - 1) r
 
 -- the words of an expression from the place n on, its own last: an atom has the place of its first word and the number of its terms, an
--- operator the places of its operands' own words, a quantifier that of its attribute and that of its operand
+-- operator the places of its operands' own words, a quantifier that of its attribute and that of its operand; a pattern's term is in the half
+-- of the matching elements below 32 or in the half from 32 on, each with its first element and the term's place
 unfoldable pub flat : Expression → ℕ → List ℕ
 flat (atom r ps) n = word RELATION-NAME (number r) (length ps) 0 ∷ (leaves TERM ps ++ (word ATOM n (length ps) 0 ∷ []))
 flat (truth ps) n = leaves TERM ps ++ (word TRUTH n (length ps) 0 ∷ [])
 flat (falsity ps) n = leaves TERM ps ++ (word FALSITY n (length ps) 0 ∷ [])
 flat (compare g p q) n = leaf TERM p ∷ leaf TERM q ∷ word ORDER n (sign-number g) 0 ∷ []
+flat (matching s p) n = leaf TERM p ∷ word MATCH (number s) 0 n ∷ word MATCH (number s) 32 n ∷ over DISJUNCTION (n + 2) (n + 3) 0 ∷ []
 flat (negation e) n = flat e n ++ (word NEGATION (n + size e - 1) 0 0 ∷ [])
 flat (conjunction a b) n = flat a n ++ (flat b (n + size a) ++ (over CONJUNCTION (n + size a) (n + size a + size b) 0 ∷ []))
 flat (disjunction a b) n = flat a n ++ (flat b (n + size a) ++ (over DISJUNCTION (n + size a) (n + size a + size b) 0 ∷ []))

@@ -5,7 +5,7 @@ use mathlib.Core.List.{List, [], _∷_}
 use lib.ListN.{length}
 use Rattle.definition.specs.Token as Token
 use Rattle.definition.specs.Token.{Token, token-at}
-use Rattle.definition.specs.Syntax.{Term, name, string, anything, Expression, atom, truth, falsity, compare, negation, conjunction, disjunction, implication, equivalence, exists, for-all, closure-of, compare-relations}
+use Rattle.definition.specs.Syntax.{Term, name, string, anything, Expression, atom, truth, falsity, compare, matching, negation, conjunction, disjunction, implication, equivalence, exists, for-all, closure-of, compare-relations}
 use Rattle.definition.specs.Syntax.{Item, rows, word, line-end, Program, end, assign, print, test, while, for, block}
 use Rattle.words.specs.Raw.{number}
 
@@ -35,6 +35,7 @@ module _ (ts : List Token) where
   OwnExpression (truth ps) = OwnTerms ps
   OwnExpression (falsity ps) = OwnTerms ps
   OwnExpression (compare g p q) = OwnTerms (p ∷ q ∷ [])
+  OwnExpression (matching s p) = OwnString s × OwnTerms (p ∷ [])
   OwnExpression (negation e) = OwnExpression e
   OwnExpression (conjunction a b) = OwnExpression a × OwnExpression b
   OwnExpression (disjunction a b) = OwnExpression a × OwnExpression b

@@ -1,18 +1,21 @@
 //! A refusal in words: the text, the line and column, what stands there and the rule that it breaks.
+use crate::pattern::{first_fault, Fault};
 use crate::{check, Refusal, Refused, Text};
 use std::fmt;
 
-/// Bytes of a line that are shown before and after the place.
+/// Bytes of a line that are shown before and after the place; a string that begins there is shown whole.
 const BEFORE: usize = 50;
-const AFTER: usize = 30;
+const AFTER: usize = 40;
 
 #[derive(Clone, Debug, PartialEq, Eq)]
 pub struct Explained {
     pub refused: Refused,
     /// none where the place is no place in a text (14 to 17)
     pub at: Option<At>,
-    /// document 01's rule
+    /// the rule that is broken
     pub rule: &'static str,
+    /// what is wrong with a refused pattern, where that can be told; the caret is then shown under its byte
+    pub fault: Option<Fault>,
 }
 
 #[derive(Clone, Debug, PartialEq, Eq)]
@@ -48,6 +51,7 @@ fn rule(refusal: Refusal) -> &'static str {
         Refusal::NotInFacts => "the facts hold a binary relation of this name and both elements",
         Refusal::BufferShort => "a chain's buffer has at least 65 bytes",
         Refusal::NoChain => "no chain exists",
+        Refusal::Pattern => "a pattern is one or more branches parted by |, each one or more pieces: ^, $, or a character, ., set or group with at most one repeat sign *, +, ? or {m,n}",
     }
 }
 
@@ -56,7 +60,7 @@ fn text_of(refused: &Refused, facts: &[u8]) -> Option<Text> {
     match refused.refusal.number() {
         1..=4 => Some(Text::Facts),
         5..=7 if check(facts, b"") == Err(*refused) => Some(Text::Facts),
-        5..=13 => Some(Text::Query),
+        5..=13 | 18 => Some(Text::Query),
         _ => None,
     }
 }
@@ -126,10 +130,17 @@ fn at(refused: &Refused, which: Text, text: &[u8]) -> At {
     }
 }
 
+/// What is wrong with the string that was found, if it was refused as a pattern.
+fn fault_of(refused: &Refused, found: &[u8]) -> Option<Fault> {
+    let pattern = found.strip_prefix(b"\"")?.strip_suffix(b"\"")?;
+    first_fault(pattern).filter(|_| refused.refusal == Refusal::Pattern)
+}
+
 /// Where and why the texts of a call were refused; `query` is empty for a chain.
 pub fn explain(refused: Refused, facts: &[u8], query: &[u8]) -> Explained {
     let at = text_of(&refused, facts).map(|t| at(&refused, t, if t == Text::Facts { facts } else { query }));
-    Explained { refused, at, rule: rule(refused.refusal) }
+    let fault = at.as_ref().and_then(|a| fault_of(&refused, &a.found));
+    Explained { refused, at, rule: rule(refused.refusal), fault }
 }
 
 /// A text's bytes for the eye, one character each.
@@ -153,8 +164,12 @@ impl fmt::Display for Explained {
             return write!(f, "refused {number} ({}): {}", self.refused.place, self.rule);
         };
         let name = if at.text == Text::Facts { "facts" } else { "query" };
-        writeln!(f, "{name}:{}:{}: refused {number} at {}: {}", at.line, at.column, named(&at.found), self.rule)?;
-        writeln!(f, "  {}", plain(&at.shown))?;
-        write!(f, "  {}^", " ".repeat(at.caret))
+        write!(f, "{name}:{}:{}: refused {number} at {}: {}", at.line, at.column, named(&at.found), self.rule)?;
+        let mut caret = at.caret;
+        if let Some(fault) = self.fault {
+            write!(f, "; here {}", fault.reason)?;
+            caret += 1 + fault.offset; // a pattern begins after its string's quote
+        }
+        write!(f, "\n  {}\n  {}^", plain(&at.shown), " ".repeat(caret))
     }
 }

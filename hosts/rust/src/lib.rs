@@ -11,15 +11,17 @@
 //! ```
 pub mod c;
 mod explain;
+mod pattern;
 
 pub use explain::{explain, At, Explained};
+pub use pattern::Fault;
 
 /// Words of store that are enough for every accepted pair of texts.
 pub const STORE_WORDS: usize = 70_656;
 /// Bytes that a chain needs at least, and that are enough for each.
 pub const CHAIN_BYTES: usize = 65;
 
-/// Why a call refuses, by the numbers of document 01's table.
+/// Why a call refuses, by the numbers of documents 01 and 02.
 #[derive(Clone, Copy, Debug, PartialEq, Eq)]
 pub enum Refusal {
     FactsTooLong = 1,
@@ -39,10 +41,11 @@ pub enum Refusal {
     NotInFacts,
     BufferShort,
     NoChain,
+    Pattern,
 }
 
 impl Refusal {
-    const ALL: [Refusal; 17] = [
+    const ALL: [Refusal; 18] = [
         Refusal::FactsTooLong,
         Refusal::FactByte,
         Refusal::FactName,
@@ -60,9 +63,10 @@ impl Refusal {
         Refusal::NotInFacts,
         Refusal::BufferShort,
         Refusal::NoChain,
+        Refusal::Pattern,
     ];
 
-    /// Document 01's number.
+    /// The documents' number.
     pub fn number(self) -> u64 {
         self as u64
     }

@@ -1,10 +1,92 @@
-//! The wrapper over the archive: the worked example, facts saved with CR LF, refusals, empty and equal texts, the largest sizes.
-use relcalc::{chain, check, element, explain, run, Ending, Explained, Refusal, Refused, Text, CHAIN_BYTES, STORE_WORDS};
+//! The wrapper over the archive: the worked example, facts saved with CR LF, patterns, refusals, empty and equal texts, largest sizes.
+use relcalc::{chain, check, element, explain, run, Ending, Explained, Fault, Refusal, Refused, Text, CHAIN_BYTES, STORE_WORDS};
 
 const FACTS: &[u8] = b"On C10 C5\nOn C5 C2\nOn B7 C10\nHeld B7\n";
 const FACTS_CR_LF: &[u8] = b"On C10 C5\r\nOn C5 C2\r\nOn B7 C10\r\nHeld B7\r\n";
 const QUERY: &[u8] = b"Dep(x,y) := TC(On(x,y)); PRINT [\"Dep\"] Dep(x,y);";
 const PAGE: &[u8] = b"Dep B7 C10\nDep B7 C2\nDep B7 C5\nDep C10 C2\nDep C10 C5\nDep C5 C2\n";
+
+const NO_BRACES: &str = "a { that opens no {m,n} with 0 <= m <= n <= 8, one digit each";
+/// Where each is wrong, and how.
+const NO_PATTERNS: [(&str, usize, &str); 51] = [
+    ("", 0, "an empty pattern"),
+    ("a|", 2, "an empty branch or group"),
+    ("|a", 0, "an empty branch or group"),
+    ("a||b", 2, "an empty branch or group"),
+    ("a|b|", 4, "an empty branch or group"),
+    ("a()b", 2, "an empty branch or group"),
+    ("(())", 2, "an empty branch or group"),
+    ("(a|)", 3, "an empty branch or group"),
+    ("*a", 0, "a repeat sign with nothing before it"),
+    ("a|+", 2, "a repeat sign with nothing before it"),
+    ("({1,2})", 1, "a repeat sign with nothing before it"),
+    ("^*", 1, "a repeat sign after ^ or $"),
+    ("(a$)?$?", 6, "a repeat sign after ^ or $"),
+    ("^{0,1}", 1, "a repeat sign after ^ or $"),
+    ("a**", 2, "a second repeat sign"),
+    ("a+?", 2, "a second repeat sign"),
+    ("[*]{1,2}*", 8, "a second repeat sign"),
+    ("a*{1,2}", 2, "a second repeat sign"),
+    ("a{", 1, NO_BRACES),
+    ("a{1", 1, NO_BRACES),
+    ("a{3}", 1, NO_BRACES),
+    ("a{1,}", 1, NO_BRACES),
+    ("a{,2}", 1, NO_BRACES),
+    ("a{01,2}", 1, NO_BRACES),
+    ("a{1, 2}", 1, NO_BRACES),
+    ("a{2,1}", 1, NO_BRACES),
+    ("a{0,9}", 1, NO_BRACES),
+    ("a{1,2", 1, NO_BRACES),
+    ("a{1-2}", 1, NO_BRACES),
+    ("(a", 0, "a group that is not closed"),
+    ("((a)", 0, "a group that is not closed"),
+    ("(a|(", 3, "a group that is not closed"),
+    ("(a\\)", 0, "a group that is not closed"),
+    ("a)", 1, "a ) without its ("),
+    ("(a))|b", 3, "a ) without its ("),
+    (")(", 0, "a ) without its ("),
+    ("a[", 1, "a set that is not closed"),
+    ("[]", 0, "a set that is not closed"),
+    ("[^]", 0, "a set that is not closed"),
+    ("(a[b)", 2, "a set that is not closed"),
+    ("[a-", 0, "a set that is not closed"),
+    ("[b-a]", 1, "a range that falls"),
+    ("[a-cz-x]", 4, "a range that falls"),
+    ("[a--]", 1, "a range that falls"),
+    ("[^a-\\]", 2, "a range that falls"),
+    ("[[:alpha:]]", 1, "[: or [. or [= in a set"),
+    ("[[.]", 1, "[: or [. or [= in a set"),
+    ("[a[=]", 2, "[: or [. or [= in a set"),
+    ("[A-[.]", 3, "[: or [. or [= in a set"),
+    ("\\", 0, "a backslash at the end"),
+    ("a\\\\\\", 3, "a backslash at the end"),
+];
+/// What is picked out of B7, C10, C2, C5.
+const PATTERNS: [(&str, &str); 19] = [
+    ("^C1", "C10\n"),
+    ("C", "C10\nC2\nC5\n"),
+    ("c", ""),
+    ("^C.$", "C2\nC5\n"),
+    ("[1-5]", "C10\nC2\nC5\n"),
+    ("[^C2-5]$", "B7\nC10\n"),
+    ("[]7-]", "B7\n"),
+    ("^C1*0?2+$|7", "B7\nC2\n"),
+    ("^(B|C1){1,1}.$", "B7\nC10\n"),
+    ("^.{3,8}$", "C10\n"),
+    ("C{0,0}7", "B7\n"),
+    ("\\C\\5", "C5\n"),
+    ("^^B", "B7\n"),
+    ("(^)*7$$", "B7\n"),
+    ("a*^B", "B7\n"),
+    ("C^2", ""),
+    ("(^|C1)0", "C10\n"),
+    ("[.]|[:]|[^^]{3,3}", "C10\n"),
+    ("]|}|-|,|:| |\t|[[]|[a-c-e]", ""),
+];
+
+fn picking(pattern: &str) -> String {
+    format!("PRINT @\"{pattern}\"(x);")
+}
 
 fn refused(refusal: Refusal, place: usize) -> Refused {
     Refused { refusal, place }
@@ -117,6 +199,53 @@ fn returns_elsewhere() {
     assert_eq!(buffer, [9; CHAIN_BYTES]);
 }
 
+fn page(query: &str) -> String {
+    let (mut store, mut output) = (vec![7; STORE_WORDS], [7; 100]);
+    let ran = run(FACTS, query.as_bytes(), 99, &mut store, &mut output).unwrap();
+    assert_eq!(ran.ending, Ending::Done, "{query}");
+    String::from_utf8(output[..ran.written].to_vec()).unwrap()
+}
+
+#[test]
+fn patterns() {
+    for (pattern, picked) in PATTERNS {
+        assert_eq!(page(&picking(pattern)), picked, "{pattern}");
+    }
+    assert_eq!(page("Q(x) := On(x,_) & @\"^C1\"(x); PRINT Q(x);"), "C10\n");
+    let terms = "PRINT [\"a\"] @\"^C\"(\"C2\"), [\"b\"] @\"^B\"(\"C2\"), [\"c\"] @\".\"(\"Z\"), [\"d\"] @\"7$\"(_), [\"e\"] @\"8$\"(_);";
+    assert_eq!(page(terms), "a\nd\n");
+    assert_eq!(page("FOR v IN On(x,_) { IF @\"^C\"(v) { PRINT v, ENDL; } }"), "C10\nC5\n");
+    assert_eq!(page("PRINT !@ /* a */ \"C\" // b\n (x);"), "B7\n");
+    assert_eq!(page("Held(\"D.1\"); Held(\"DX1\"); PRINT @\"D[.]1\"(x);"), "D.1\n");
+    assert_eq!(check(FACTS, picking("Z").as_bytes()).unwrap().universe, 4);
+}
+
+#[test]
+fn refused_patterns() {
+    for (pattern, _, _) in NO_PATTERNS {
+        assert_eq!(check(FACTS, picking(pattern).as_bytes()), Err(refused(Refusal::Pattern, 7)), "{pattern}");
+    }
+    let over_32 = picking(&"a".repeat(33));
+    let rows = [
+        (Refusal::Pattern, 8, "PRINT @ \"\" (x);"),
+        (Refusal::Pattern, 16, "PRINT @\"a\"(x), @\"(\"(x), @\"\"(x);"),
+        (Refusal::Pattern, 20, "IF FALSE() { PRINT @\"(\"(x); }"),
+        (Refusal::Pattern, 7, "PRINT @\"\"(On);"),
+        (Refusal::NoToken, 7, &over_32),
+        (Refusal::NoProgram, 13, "PRINT @\"(\"(x)"),
+        (Refusal::NoProgram, 26, "FOR v IN Held(x) { PRINT @v(x); }"),
+        (Refusal::NoProgram, 12, "PRINT @\"(\"(x,y);"),
+        (Refusal::Kind, 11, "PRINT @\"a\"(On);"),
+        (Refusal::FreeAttributes, 0, "S() := @\"^C1\"(x);"),
+    ];
+    for (refusal, place, query) in rows {
+        let query = query.as_bytes();
+        assert_eq!(check(FACTS, query), Err(refused(refusal, place)));
+        assert_eq!(run(FACTS, query, 9, &mut [7; 99], &mut []), Err(refused(refusal, place)));
+        assert_eq!(element(FACTS, query, 0), None);
+    }
+}
+
 #[test]
 fn a_refusal_changes_nothing() {
     let (mut store, mut output) = ([7; 76], [7; 10]);
@@ -124,6 +253,7 @@ fn a_refusal_changes_nothing() {
     assert_eq!(run(FACTS, b"PRINT On(x,y)", 9, &mut store, &mut output), Err(refused(Refusal::NoProgram, 13)));
     assert_eq!(run(b"Held B7\r\r\n", QUERY, 9, &mut store, &mut output), Err(refused(Refusal::FactByte, 7)));
     assert_eq!(run(FACTS, b"PRINT ENDL;\r\n", 9, &mut store, &mut output), Err(refused(Refusal::NoToken, 11)));
+    assert_eq!(run(FACTS, b"PRINT @\"C{3}\"(x);", 9, &mut store, &mut output), Err(refused(Refusal::Pattern, 7)));
     assert_eq!((store, output), ([7; 76], [7; 10]));
 }
 
@@ -185,6 +315,26 @@ fn words_on_refused_returns() {
 }
 
 #[test]
+fn faults_of_patterns() {
+    let told = |query: &str, place| explain(refused(Refusal::Pattern, place), FACTS, query.as_bytes());
+    for (pattern, offset, reason) in NO_PATTERNS {
+        let query = picking(pattern);
+        let e = told(&query, 7);
+        let at = e.at.clone().unwrap();
+        assert_eq!((e.fault, at.text, at.column), (Some(Fault { offset, reason }), Text::Query, 8), "{e}");
+        assert!(e.to_string().starts_with(&format!("query:1:8: refused 18 at `\"{pattern}\"`: ")), "{e}");
+        assert!(e.to_string().ends_with(&format!("; here {reason}\n  {query}\n  {}^", " ".repeat(8 + offset))), "{e}");
+    }
+    for (pattern, _) in PATTERNS {
+        assert_eq!(told(&picking(pattern), 7).fault, None, "{pattern}");
+    }
+    let line = format!("  @\"{}a{}\" (x);", "(".repeat(16), ")".repeat(15));
+    let e = told(&format!("PRINT On(x,_) &\n{line}"), 19);
+    assert!(e.to_string().starts_with("query:2:4: refused 18 at `\"(((("), "{e}");
+    assert!(e.to_string().ends_with(&format!("; here a group that is not closed\n  {line}\n      ^")), "{e}");
+}
+
+#[test]
 fn words_where_a_limit_meets_a_line_end() {
     let shown = |e: Explained| e.at.map(|a| (a.line, a.column, a.found, a.shown, a.caret)).unwrap();
     let told_facts = |hashes, end: &[u8]| shown(told(&[&b"#".repeat(hashes)[..], end].concat(), QUERY));
@@ -199,12 +349,13 @@ fn words_where_a_limit_meets_a_line_end() {
 
 #[test]
 fn words_on_any_text_and_place() {
-    let rows = [Refusal::FactsTooLong, Refusal::FactByte, Refusal::FactElement, Refusal::Arity, Refusal::NoToken, Refusal::NoProgram];
+    use Refusal::*;
+    let rows = [FactsTooLong, FactByte, FactElement, Arity, NoToken, NoProgram, Pattern];
     let texts: [&[u8]; 6] = [b"", b"\r", b"\n\r\n", b"a\r\nb\r", b"\"\r\n\"", b"\r\r\n"];
     for (row, text, place) in rows.iter().flat_map(|r| texts.map(|t| (0..=t.len() + 1).map(move |p| (*r, t, p)))).flatten() {
         let e = explain(refused(row, place), text, text);
         let at = e.at.clone().unwrap();
-        assert_eq!(at.found.is_empty(), place >= text.len(), "{e}");
+        assert_eq!((at.found.is_empty(), e.fault), (place >= text.len(), None), "{e}");
         assert!(at.caret <= at.shown.len() && !at.shown.contains(&10) && !at.shown[..at.caret].contains(&13), "{e}");
     }
     let at = explain(refused(Refusal::FactName, 99), b"Held B7\r\nHeld C2\r", b"").at.unwrap();

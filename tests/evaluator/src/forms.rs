@@ -1,7 +1,11 @@
-//! Which forms the expressions and statements of accepted texts have, and where bytes 13 stand in texts, by name: what the tally counts.
+//! Which forms the expressions, patterns and statements of accepted texts have, how texts with a malformed pattern are refused, and where
+//! bytes 13 stand in texts, by name: what the tally counts.
 use crate::facts::is_legal;
 use crate::parse::{Expr, Item, Stmt, Term};
-use crate::Accepted;
+use crate::pattern::{self, Pattern};
+use crate::picked::SPECIAL;
+use crate::tokens::{self, Kind, Token};
+use crate::{accept, pattern_strings, Accepted};
 use std::collections::BTreeSet;
 
 pub struct Forms<'a> {
@@ -9,11 +13,19 @@ pub struct Forms<'a> {
     found: Vec<String>,
 }
 
-/// What an expression stands in: the attributes that quantifiers around it bind, and whether a connective is around it.
+/// What an expression stands in: the attributes that quantifiers around it bind, whether a connective is around it, and which closure or
+/// comparison hides all else.
 #[derive(Clone, Default)]
 struct Around {
     bound: Vec<Vec<u8>>,
     connective: bool,
+    within: &'static str,
+}
+
+impl Around {
+    fn only(within: &'static str) -> Around {
+        Around { within, ..Around::default() }
+    }
 }
 
 /// Every name of an attribute or variable that stands in an expression.
@@ -22,8 +34,45 @@ fn occurs(e: &Expr, x: &[u8]) -> bool {
     match e {
         Expr::Atom(_, ps) | Expr::True(ps) | Expr::False(ps) => ps.iter().any(is),
         Expr::Sign(_, a, b) => is(a) || is(b),
+        Expr::Matches(_, a) => is(a),
         Expr::Not(a) | Expr::Tc(a) | Expr::Ex(_, a) | Expr::Fa(_, a) => occurs(a, x),
         Expr::Two(_, a, b) | Expr::Compare(_, a, b) => occurs(a, x) || occurs(b, x),
+    }
+}
+
+/// What a pattern holds, each once.
+fn in_pattern(p: &Pattern, repeated: bool, found: &mut BTreeSet<&'static str>) {
+    match p {
+        Pattern::Start | Pattern::End => {
+            found.insert(if repeated { "^ or $ in a repeat" } else if *p == Pattern::Start { "^" } else { "$" });
+        }
+        Pattern::Byte(b) => {
+            found.insert(if SPECIAL.contains(b) { "a backslash" } else { "a character" });
+        }
+        Pattern::Any => {
+            found.insert(".");
+        }
+        Pattern::Set { complement, .. } => {
+            found.insert(if *complement { "a complement" } else { "a set" });
+        }
+        Pattern::Repeat(piece, least, most) => {
+            let sign = match (least, most) {
+                (0, None) => "*",
+                (_, None) => "+",
+                (0, Some(0)) => "{0,0}",
+                (0, Some(1)) => "?",
+                _ => "{m,n}",
+            };
+            found.extend([sign, if repeated { "a repeat in a repeat" } else { sign }]);
+            in_pattern(piece, true, found);
+        }
+        Pattern::Row(pieces) => pieces.iter().for_each(|piece| in_pattern(piece, repeated, found)),
+        Pattern::Either(branches) => {
+            if branches.len() > 1 {
+                found.insert("branches");
+            }
+            branches.iter().for_each(|branch| in_pattern(branch, repeated, found));
+        }
     }
 }
 
@@ -50,6 +99,24 @@ impl Forms<'_> {
             self.add(format!("atom of {}: an attribute {most} times", ps.len()));
         }
     }
+    /// What is in a pattern, and which elements match.
+    fn pattern(&mut self, text: &[u8]) {
+        let mut found = BTreeSet::new();
+        let p = &self.texts.patterns[text];
+        in_pattern(p, false, &mut found);
+        if text.len() == 32 {
+            found.insert("32 bytes");
+        }
+        let matching = self.texts.universe.iter().filter(|e| p.matches(e)).count();
+        let which = match self.texts.universe.len() - matching {
+            0 if matching == 0 => "no elements at all",
+            0 => "each element",
+            _ if matching == 0 => "no element",
+            _ => "some elements",
+        };
+        self.add(format!("pattern that matches {which}"));
+        self.found.extend(found.iter().map(|what| format!("pattern with {what}")));
+    }
     fn quantifier(&mut self, x: &[u8], inside: &Expr, around: &Around) {
         let free = self.texts.names.free(inside).iter().any(|y| y == x);
         let how = if free { "free inside" } else if occurs(inside, x) { "bound again inside" } else { "not inside" };
@@ -66,6 +133,10 @@ impl Forms<'_> {
             Expr::Atom(_, ps) => self.terms(ps),
             Expr::True(ps) | Expr::False(ps) => self.add(format!("TRUE or FALSE of {}", ps.len().min(4))),
             Expr::Sign(s, a, b) => self.add(format!("{} {s} {}", self.term(a), self.term(b))),
+            Expr::Matches(pattern, a) => {
+                self.add(format!("pattern of {}{under}{}", self.term(a), around.within));
+                self.pattern(&pattern.text);
+            }
             Expr::Not(a) => self.expression(a, around),
             Expr::Two(_, a, b) => {
                 let inner = Around { connective: true, ..around.clone() };
@@ -75,13 +146,13 @@ impl Forms<'_> {
             Expr::Ex(x, a) | Expr::Fa(x, a) => self.quantifier(&x.text, a, around),
             Expr::Tc(a) => {
                 self.add(format!("closure{under}"));
-                self.expression(a, &Around::default());
+                self.expression(a, &Around::only(" in a closure"));
             }
             Expr::Compare(_, a, b) => {
                 let part = if around.connective { " beside a connective" } else { "" };
                 self.add(format!("relation comparison{under}{part}"));
-                self.expression(a, &Around::default());
-                self.expression(b, &Around::default());
+                self.expression(a, &Around::only(" in a comparison"));
+                self.expression(b, &Around::only(" in a comparison"));
             }
         }
     }
@@ -127,8 +198,33 @@ impl Forms<'_> {
 /// Each form as often as it occurs.
 pub fn of(texts: &Accepted) -> Vec<String> {
     let mut forms = Forms { texts, found: vec![format!("universe of {:2}", texts.universe.len())] };
+    if !texts.patterns.is_empty() {
+        forms.add("text with patterns".into());
+    }
     forms.statements(&texts.program);
     forms.found
+}
+
+/// How a text with a malformed pattern is refused: for which fault of it, and what would be next if there were none, or for what else.
+pub fn malformed(facts: &[u8], query: &[u8]) -> Vec<String> {
+    let tokens = tokens::read(query).unwrap_or_default();
+    let fault = |t: &Token| if t.kind == Kind::Quoted { pattern::read(&t.text).err() } else { None };
+    let Some((nth, first)) = pattern_strings(&tokens).enumerate().find_map(|(n, t)| Some((n, fault(t)?))) else {
+        return Vec::new();
+    };
+    match accept(facts, query) {
+        Err((18, _)) => {
+            let mut mended = query.to_vec();
+            // from the last one on, so that places before it stay
+            let wrong: Vec<&Token> = pattern_strings(&tokens).filter(|t| fault(t).is_some()).collect();
+            wrong.iter().rev().for_each(|t| drop(mended.splice(t.at + 1..t.at + 1 + t.text.len(), *b"a")));
+            let next = accept(facts, &mended).map_or_else(|(row, _)| format!("before {row}"), |_| "alone".into());
+            let which = if nth == 0 { "the first" } else { "a later" };
+            vec![format!("refused 18 for {first}"), format!("refused 18 {next}"), format!("refused 18 at {which} pattern")]
+        }
+        Err((row, _)) => vec![format!("malformed pattern, but refused {row:2}")],
+        Ok(_) => unreachable!(),
+    }
 }
 
 /// Where a byte 13 of a line stands.

@@ -1,6 +1,7 @@
 //! Texts for comparisons: facts and queries that are mostly accepted, the same with damage, texts with several faults, and texts at each
-//! limit of document 01; some of them saved with CR LF, as Paper 1 of document 02 allows for facts, or with bytes 13 elsewhere.
-use crate::{accept, saved, shapes};
+//! limit of document 01; some of them saved with CR LF, as Paper 1 of document 02 allows for facts, or with bytes 13 elsewhere, and some
+//! with patterns, as Paper 2 adds them.
+use crate::{accept, picked, saved, shapes};
 
 /// A small generator of pseudo-random numbers: the same seed gives the same texts on every machine.
 pub struct Random(u64);
@@ -50,7 +51,7 @@ pub struct Chain {
 const NAMES: [(&str, usize); 8] = [("On", 2), ("Held", 1), ("P", 0), ("T", 3), ("Dep", 2), ("q_1", 1), ("Long_relation_name_of_32_bytes__", 2), ("IFF", 1)];
 const ATTRIBUTES: [&str; 5] = ["x", "y", "z", "a1", "Name"];
 const VARIABLES: [&str; 3] = ["c", "v", "loop"];
-const ELEMENTS: [&str; 10] = ["B7", "C10", "C2", "C5", "B", "", "5Y off the run", "~", "Z", "0123456789abcdef0123456789abcdef"];
+const ELEMENTS: [&str; 12] = ["B7", "C10", "C2", "C5", "B", "", "5Y off the run", "~", "Z", "0123456789abcdef0123456789abcdef", "[^c-5]", "\\\tC"];
 
 pub struct Writer<'a> {
     r: &'a mut Random,
@@ -77,6 +78,16 @@ impl Writer<'_> {
     }
     fn sign(&mut self) -> &'static str {
         *self.r.pick(&["=", "!=", "<", "<=", ">", ">="])
+    }
+    /// a pattern of an element, or of any form, or malformed
+    fn pick(&mut self) {
+        let p = match self.r.below(40) {
+            0 => picked::malformed(self.r),
+            1..=10 => picked::pattern(self.r),
+            _ => picked::pattern_of(self.r, &ELEMENTS),
+        };
+        self.put(&format!("@\"{p}\""));
+        self.terms(1);
     }
     fn term(&mut self) {
         if self.r.one_in(400) {
@@ -115,7 +126,8 @@ impl Writer<'_> {
     /// an expression, of at most d levels; `free` attributes are what its atoms mostly take
     fn expression(&mut self, d: usize) {
         self.blank();
-        match if d == 0 { 0 } else { self.r.below(16) } {
+        match if d == 0 { self.r.below(4) } else { self.r.below(17) } {
+            3 if self.r.one_in(4) => self.pick(),
             0..=3 => self.atom(),
             4 => {
                 self.term();
@@ -331,8 +343,7 @@ pub fn facts(r: &mut Random) -> Vec<u8> {
         for _ in 0..arity {
             out.extend(r.pick(&[" ", "\t", "  "]).bytes());
             let e = *r.pick(&ELEMENTS);
-            let quoted = e.is_empty() || e.contains(' ') || r.one_in(6);
-            out.extend(if quoted { format!("\"{e}\"") } else { e.to_string() }.bytes());
+            out.extend(picked::in_facts(r, e).bytes());
         }
         out.extend(r.pick(&["\n", "\n", "\n", " \n"]).bytes());
     }
@@ -379,10 +390,10 @@ fn repeated(n: usize, f: impl Fn(usize) -> String) -> String {
     (0..n).map(f).collect()
 }
 
-/// The limits of document 01 that texts can meet.
-pub const LIMITS: usize = 40;
+/// The limits of documents 01 and 02 that texts can meet.
+pub const LIMITS: usize = 48;
 
-/// Texts one below a limit (past 0), at it (1) or one past it (2). Where document 01 asks for an exact number, that is the middle one.
+/// Texts one below a limit (past 0), at it (1) or one past it (2). Where a document asks for an exact number, that is the middle one.
 pub fn limit(kind: usize, past: usize) -> (Vec<u8>, Vec<u8>) {
     let n = |limit: usize| limit - 1 + past;
     let names = |first: usize, count: usize| (first..first + count).map(|i| format!("a{i}")).collect::<Vec<_>>().join(",");
@@ -431,6 +442,14 @@ pub fn limit(kind: usize, past: usize) -> (Vec<u8>, Vec<u8>) {
         36 => (format!("{:#<width$}\r\nOn a b\r\n", "", width = n(32768) - 10), plain),
         37 => (format!("{:#<width$}\r\nOn a b\r", "", width = n(32768) - 9), plain),
         38 => (format!("{:#<width$}\r\nOn a b\r\n\r", "", width = n(32768) - 11), plain),
+        39 => (format!("Held {}\n", "a".repeat(32)), format!("PRINT @\"{}\"(x);", "a".repeat(n(32)))),
+        40 => (format!("Held {}\nHeld a{}\n", "a".repeat(n(32)), "b".repeat(30)), format!("PRINT @\"^(a+|ab{}b+)$\"(x);", "b".repeat(15))),
+        41 => (few, format!("{}{}", "PRINT @\"1\"(x);".repeat(292), ["PRINT ENDL;", "P();", "Held(\"\");"][past])),
+        42 => (few, format!("PRINT {};", nested("(", "@\"((1))\"(x)", ")"))),
+        43 => (repeated(10, |i| format!("Held e{}\n", "c".repeat(i))), format!("PRINT @\"^ec{{0,{}}}$\"(x);", n(8))),
+        44 => (repeated(10, |i| format!("Held e{}\n", "c".repeat(i))), format!("PRINT @\"^e(c){{{},8}}$\"(x);", n(8))),
+        45 => (few, format!("PRINT EX({}, P(){});", names(0, n(4)), repeated(n(4), |i| format!(" | @\"C\"(a{i})")))),
+        46 => (repeated(n(64), |i| format!("Held e{i}\n")), "PRINT @\"[13]$\"(x); FOR c IN @\"^e[^5-9]{1,1}$\"(x) { Held(x) := Held(x) & !@\"6\"(x) & @\"e\"(c); }".into()),
         _ => {
             let tables = repeated(16, |r| format!("R{r} e0 e0 e0\n"));
             (format!("{tables}{}", repeated(n(64), |i| format!("R0 e{i} e{} e0\n", (i + 1) % 62))), "R1(x,y,z) := R0(x,z,y); PRINT R1(x,y,z);".into())
@@ -450,11 +469,14 @@ fn faults(r: &mut Random) -> (Vec<u8>, Vec<u8>) {
         "Held a\"", "Held \"a\"b", "On a", "On", "T a b c d", "T a b c d\"", "T a b c \"d", "T a b \"c d", "On a b \"c", "On \"a\" \"b\" \"c\"", "P a",
     ];
     let statements = [
-        "On(x,y) := On(y,x);", "P();", "PRINT Held(x), ENDL;", "FOR c IN Held(x) { PRINT c; }", "{ Held(\"z\"); }", "@", "5", "PRINT \"open", "/* open",
+        "On(x,y) := On(y,x);", "P();", "PRINT Held(x), ENDL;", "FOR c IN Held(x) { PRINT c; }", "{ Held(\"z\"); }", "$", "5", "PRINT \"open", "/* open",
         "PRINT ABCDEFGHIJKLMNOPQRSTUVWXYZABCDEFG(x);", "\x01", "PRINT \"\x02\";", "PRINT", "On(x,y) := ;", "P() := P() -> P() -> P();", "x = y;", "ELSE",
         "TO();", "PRINT On;", "PRINT x;", "FOR x IN Held(y) { P(); }", "FOR c IN Held(c) { P(); }", "PRINT c;", "c(x);", "PRINT On(On,x);", "P(x);",
         "PRINT On(x);", "PRINT New(x,y,z,a);", "Held(x) := On(x,y);", "PRINT TC(On(x,x));", "IF Held(x) { On(x); }", "WHILE P() { Held(x) := P(); }",
         "FOR d IN On(x,y) { P(); }", "PRINT TRUE(x,y,z,a);", "PRINT EX(x,y,z,a,b, On(x));", "PRINT EX(x,y,z,a,b, P());", &deep, &wide, &relations, &elements,
+        "PRINT @\"a\"(x) & Held(x);", "@", "PRINT @(x);", "PRINT @\"a\"();", "PRINT @\"a\"(x,y);", "FOR c IN Held(x) { PRINT @c(x); }", "PRINT @\"(\"", "@\"*\"(x);",
+        "PRINT @\"\"(x);", "PRINT @\"a**\"(x);", "IF FALSE() { PRINT @\"(\"(x); }", "PRINT @\"a\"(_) & @\"[a\"(\"a\");", "PRINT @\"a|\"(On);", "FOR x IN @\")\"(y) { P(); }",
+        "FOR c IN @\"a\"(c) { P(); }", "PRINT @\"a\"(On);", "P() := @\"a\"(x);", "P() := @\"\\\"(x);", "IF @\"a\"(x) { P(); }", "PRINT @\"a{0,9}\"(x) & On(x);",
     ];
     // the first 7 lines and 5 statements have no fault
     let most = if r.one_in(2) { lines.len() } else { 7 };
@@ -516,6 +538,7 @@ pub fn texts(number: u64) -> Texts {
         k if k < limits => limit((k / 3) as usize, (k % 3) as usize),
         _ if r.one_in(12) => limit(r.below(LIMITS), r.below(3)),
         _ if r.one_in(5) => faults(r),
+        _ if r.one_in(8) => picked::texts(r),
         _ => (self::facts(r), self::query(r)),
     };
     if number >= limits && r.one_in(5) {

@@ -10,6 +10,8 @@ pub mod meaning;
 pub mod names;
 pub mod nodes;
 pub mod parse;
+pub mod pattern;
+pub mod picked;
 pub mod run;
 pub mod saved;
 pub mod shapes;
@@ -19,8 +21,11 @@ use facts::{Element, Facts};
 use meaning::{Row, Set, World};
 use names::Names;
 use parse::Stmt;
+use pattern::Pattern;
 use run::{Ending, Run};
+use std::cell::OnceCell;
 use std::collections::{BTreeMap, BTreeSet};
+use tokens::{Kind, Token};
 
 /// A row of document 01's table and its place.
 pub type Refusal = (u32, usize);
@@ -29,8 +34,12 @@ pub type Refusal = (u32, usize);
 pub struct Accepted {
     pub facts: Facts,
     pub program: Vec<Stmt>,
+    /// by their texts
+    pub patterns: BTreeMap<Vec<u8>, Pattern>,
     pub names: Names,
     pub universe: Vec<Vec<u8>>,
+    /// by a pattern's text, the elements that match; found once, since a comparison runs the same texts several times
+    matching: OnceCell<BTreeMap<Vec<u8>, Set>>,
 }
 
 fn table_words(u: usize, arity: usize) -> usize {
@@ -41,10 +50,21 @@ fn table_words(u: usize, arity: usize) -> usize {
     }
 }
 
+/// The strings of a program that are patterns, in text order.
+pub fn pattern_strings(tokens: &[Token]) -> impl Iterator<Item = &Token> {
+    tokens.windows(2).filter(|w| w[0].kind == Kind::Fixed("@")).map(|w| &w[1])
+}
+
+/// The patterns of a program; row 18.
+fn patterns(tokens: &[Token]) -> Result<BTreeMap<Vec<u8>, Pattern>, Refusal> {
+    pattern_strings(tokens).map(|t| Ok((t.text.clone(), pattern::read(&t.text).map_err(|_| (18, t.at))?))).collect()
+}
+
 pub fn accept(facts_text: &[u8], query: &[u8]) -> Result<Accepted, Refusal> {
     let facts = facts::read(facts_text)?;
     let tokens = tokens::read(query)?;
     let program = parse::read(&tokens, query.len())?;
+    let patterns = patterns(&tokens)?;
     let names = names::check(&facts, &program)?;
     let mut universe = facts.universe.clone();
     for t in names::left_strings(&program) {
@@ -53,7 +73,7 @@ pub fn accept(facts_text: &[u8], query: &[u8]) -> Result<Accepted, Refusal> {
             return Err((7, t.at));
         }
     }
-    Ok(Accepted { facts, program, names, universe: universe.into_iter().collect() })
+    Ok(Accepted { facts, program, patterns, names, universe: universe.into_iter().collect(), matching: OnceCell::new() })
 }
 
 /// A relation's record: text, offset, length, arity, first word.
@@ -88,6 +108,10 @@ impl Accepted {
             tables.get_mut(&f.name).unwrap().insert(tuple);
         }
         tables
+    }
+    fn matching(&self) -> BTreeMap<Vec<u8>, Set> {
+        let elements = |p: &Pattern| (0..self.universe.len()).filter(|&a| p.matches(&self.universe[a])).map(|a| Row::from_iter([a])).collect();
+        self.patterns.iter().map(|(text, p)| (text.clone(), elements(p))).collect()
     }
     /// A table's words.
     fn words(&self, tuples: &Set, arity: usize) -> Vec<u64> {
@@ -126,7 +150,8 @@ impl Accepted {
         if store < needed {
             return Err((14, needed));
         }
-        let world = World { universe: &self.universe, names: &self.names, tables: self.loaded(), variables: BTreeMap::new() };
+        let matching = self.matching.get_or_init(|| self.matching());
+        let world = World { universe: &self.universe, names: &self.names, matching, tables: self.loaded(), variables: BTreeMap::new() };
         let quoted: BTreeSet<usize> =
             self.facts.facts.iter().flat_map(|f| &f.elements).filter(|e| e.quoted).map(|e| self.number(&e.value)).collect();
         let mut run = Run { world, quoted, budget: budget as u64, room, steps: 0, output: Vec::new(), pages: Vec::new() };

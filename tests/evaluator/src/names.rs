@@ -71,6 +71,7 @@ impl Names {
                 self.term(a)?;
                 self.term(b)
             }
+            Expr::Matches(_, a) => self.term(a),
             Expr::Not(a) | Expr::Tc(a) => self.expression(a),
             Expr::Two(_, a, b) | Expr::Compare(_, a, b) => {
                 self.expression(a)?;
@@ -148,6 +149,7 @@ impl Names {
         match e {
             Expr::Atom(_, ps) | Expr::True(ps) | Expr::False(ps) => self.add_terms(&ps.iter().collect::<Vec<_>>(), hidden, found),
             Expr::Sign(_, a, b) => self.add_terms(&[a, b], hidden, found),
+            Expr::Matches(_, a) => self.add_terms(&[a], hidden, found),
             Expr::Not(a) | Expr::Tc(a) => self.add_free(a, hidden, found),
             Expr::Two(_, a, b) => {
                 self.add_free(a, hidden, found);
@@ -176,6 +178,7 @@ impl Names {
         match e {
             Expr::Atom(_, ps) | Expr::True(ps) | Expr::False(ps) => terms(&ps.iter().collect::<Vec<_>>()),
             Expr::Sign(_, a, b) => terms(&[a, b]),
+            Expr::Matches(_, a) => terms(&[a]),
             Expr::Not(a) => self.survey(a, names, closures),
             Expr::Tc(a) => {
                 closures.push(a);

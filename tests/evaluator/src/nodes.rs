@@ -18,6 +18,7 @@ impl Accepted {
         match e {
             Expr::Atom(_, ps) | Expr::True(ps) | Expr::False(ps) => (self.terms(&ps.iter().collect::<Vec<_>>()), 0),
             Expr::Sign(_, a, b) => (self.terms(&[a, b]), 0),
+            Expr::Matches(_, a) => (self.terms(&[a]), 0),
             Expr::Not(a) => self.of(a),
             Expr::Two(_, a, b) => both(a, b, 1),
             Expr::Ex(_, a) | Expr::Fa(_, a) => {

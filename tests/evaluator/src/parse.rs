@@ -15,6 +15,8 @@ pub enum Expr {
     True(Vec<Term>),
     False(Vec<Term>),
     Sign(&'static str, Term, Term),
+    /// a pattern's string and its term
+    Matches(Token, Term),
     Not(Box<Expr>),
     Two(&'static str, Box<Expr>, Box<Expr>),
     Ex(Token, Box<Expr>),
@@ -146,6 +148,17 @@ impl Parser<'_> {
         }
         Ok(e)
     }
+    fn matches(&mut self) -> Res<Expr> {
+        self.expect("@")?;
+        if self.kind(0) != Some(Kind::Quoted) {
+            return self.fail();
+        }
+        let pattern = self.take();
+        self.expect("(")?;
+        let a = self.term()?;
+        self.expect(")")?;
+        Ok(Expr::Matches(pattern, a))
+    }
     fn primary(&mut self) -> Res<Expr> {
         let Some(kind) = self.kind(0) else {
             return self.fail();
@@ -194,6 +207,7 @@ impl Parser<'_> {
                 self.expect(")")?;
                 Ok(Expr::Sign(s, a, b))
             }
+            Kind::Fixed("@") => self.matches(),
             _ => self.fail(),
         }
     }

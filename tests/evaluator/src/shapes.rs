@@ -1,7 +1,8 @@
-//! Accepted texts in which each form of document 01's expressions is met often, over universes of 0 to 64 elements: quantifiers that hide
+//! Accepted texts in which each form of an expression is met often, over universes of 0 to 64 elements: quantifiers that hide
 //! or bind nothing, "_", strings, loop variables and repeated attributes in each place, closures and relation comparisons under
 //! quantifiers, joins of several atoms, and every kind of left side and printed column.
 use crate::generate::Random;
+use crate::picked;
 
 const RELATIONS: [(&str, usize); 8] = [("On", 2), ("Held", 1), ("T", 3), ("Dep", 2), ("P", 0), ("All", 1), ("Q", 2), ("R", 1)];
 const ATTRIBUTES: [&str; 4] = ["x", "y", "z", "w"];
@@ -34,11 +35,16 @@ fn shuffle<T>(r: &mut Random, all: &mut [T]) {
     }
 }
 
-/// Elements in one of three ways: of one length, each a prefix of the next, or with blanks and signs.
-fn elements(r: &mut Random, size: usize) -> Vec<String> {
-    match r.below(6) {
+/// Elements in one of four ways: of one length, each a prefix of the next, with blanks and signs, or near patterns.
+fn elements(r: &mut Random, size: usize, patterns: &[String]) -> Vec<String> {
+    match r.below(8) {
         0 if size <= 32 => (0..size).map(|i| "a".repeat(i + 1)).collect(),
         1 | 2 => (0..size).map(|i| ["", " ", "~", "A b", "#", "."].get(i).map_or(format!("{i}"), |s| s.to_string())).collect(),
+        3 | 4 => {
+            let mut found = picked::elements(r, patterns, size);
+            found.extend((found.len()..size).map(|i| format!("~{i:02}")));
+            found
+        }
         _ => (0..size).map(|i| format!("e{i:02}")).collect(),
     }
 }
@@ -48,6 +54,7 @@ struct Writer<'a> {
     /// those of the facts, then one or two that only left sides have
     strings: Vec<String>,
     given: usize,
+    patterns: Vec<String>,
     attributes: usize,
     open: Vec<&'static str>,
     closures: usize,
@@ -104,9 +111,15 @@ impl Writer<'_> {
         let text = if self.r.one_in(3) { format!("{s}({})", terms.join(",")) } else { format!("{}{s}{}", terms[0], terms[1]) };
         Expression { text, free }
     }
+    fn pick(&mut self) -> Expression {
+        let (term, x) = self.term();
+        let p = self.r.pick(&self.patterns);
+        Expression { text: picked::atom(self.r, p, &term), free: x.into_iter().collect() }
+    }
     fn leaf(&mut self) -> Expression {
-        match self.r.below(24) {
+        match self.r.below(28) {
             0..=3 => self.sign(),
+            24.. => self.pick(),
             4 => {
                 let name = *self.r.pick(&["TRUE", "FALSE"]);
                 let n = self.r.below(4);
@@ -264,13 +277,9 @@ impl Writer<'_> {
 /// Facts over so many elements, in any order: all of them first, then tuples of all elements or of three alone, the last one among them,
 /// so that it often is the only one to decide.
 fn facts(r: &mut Random, all: &[String]) -> String {
-    let quoted = |r: &mut Random, e: &String| {
-        let plain = !e.is_empty() && !e.contains(' ') && !r.one_in(9);
-        if plain { format!(" {e}") } else { format!(" \"{e}\"") }
-    };
     let mut order: Vec<&String> = all.iter().collect();
     shuffle(r, &mut order);
-    let mut out: String = order.iter().map(|e| format!("All{}\n", quoted(r, e))).collect();
+    let mut out: String = order.iter().map(|e| format!("All {}\n", picked::in_facts(r, e))).collect();
     for (name, arity) in &RELATIONS[..5] {
         let few = r.one_in(2);
         let lines = match arity {
@@ -289,7 +298,7 @@ fn facts(r: &mut Random, all: &[String]) -> String {
                     3 => all.len() / 2,
                     _ => r.below(all.len()),
                 };
-                out.push_str(&quoted(r, &all[e]));
+                out += &format!(" {}", picked::in_facts(r, &all[e]));
             }
             out.push('\n');
         }
@@ -300,12 +309,14 @@ fn facts(r: &mut Random, all: &[String]) -> String {
 /// Two accepted texts. The universe has as many elements as one of `SIZES` says, or one or two more by strings on left sides.
 pub fn texts(r: &mut Random) -> (Vec<u8>, Vec<u8>) {
     let size = *r.pick(&SIZES);
-    let mut strings = elements(r, size);
+    let mut patterns: Vec<String> = (0..2).map(|_| picked::pattern(r)).collect();
+    let mut strings = elements(r, size, &patterns);
     let facts = facts(r, &strings);
+    patterns.extend(strings.iter().take(2).map(|_| picked::pattern_of(r, &strings)));
     let most = (1..=4).filter(|n| size.pow(*n as u32) <= ROWS).max().unwrap_or(1);
     let attributes = if r.one_in(60) { 3 } else { 1 + r.below(most) };
     strings.extend(["new".to_string(), "f".to_string()]);
-    let w = &mut Writer { r, strings, given: size, attributes, open: Vec::new(), closures: 0 };
+    let w = &mut Writer { r, strings, given: size, patterns, attributes, open: Vec::new(), closures: 0 };
     let query: String = (0..1 + w.r.below(4)).map(|_| w.statement(2)).collect();
     (facts.into_bytes(), query.into_bytes())
 }

@@ -18,8 +18,8 @@ pub struct Token {
     pub at: usize,
 }
 
-const MARKS: [&str; 20] =
-    ["<->", "->", "<=", ">=", "!=", ":=", "(", ")", "{", "}", "[", "]", ",", ";", "&", "|", "!", "=", "<", ">"];
+const MARKS: [&str; 21] =
+    ["<->", "->", "<=", ">=", "!=", ":=", "(", ")", "{", "}", "[", "]", ",", ";", "&", "|", "!", "=", "<", ">", "@"];
 const WORDS: [&str; 26] = [
     "AVG", "DIV", "ELSE", "ENDL", "EX", "EXEC", "EXIT", "FA", "FOR", "IF", "IN", "MAX", "MIN", "MOD", "NUMBER", "PRINT",
     "RELINFO", "STDERR", "STRING", "SUM", "TC", "TCFAST", "TO", "WHILE", "TRUE", "FALSE",

@@ -16,36 +16,36 @@ enum-known-q c = search needs
 enum-known-t : tie.Need-enum-known-t
 enum-known-t c = search needs
 
-slice-reshare-prefix-with-program : tie.Need-slice-reshare-prefix-with-program
-slice-reshare-prefix-with-program c =
+slice-reshare-prefix-with-query : tie.Need-slice-reshare-prefix-with-query
+slice-reshare-prefix-with-query c =
     let s = c .before .before .before .before .before .before .before .before .before .before .before .before .before .before .before .before .before .before .before in
     let q = c .before .before .before .before .before .before .before .read-query in
     let g = query-right (now (s .args .query)) (q .last .1 .0) (q .last .1 .1 .0) _ (q .ensures) _ _ (c .before .t .given .1) in
     omega (arith, g .few)
 
-slice-aggregate-with-program : tie.Need-slice-aggregate-with-program
-slice-aggregate-with-program c =
+slice-aggregate-with-query : tie.Need-slice-aggregate-with-query
+slice-aggregate-with-query c =
     let s = c .before .before .before .before .before .before .before .before .before .before .before .before .before .before .before .before .before .before .before .before in
     let q = c .before .before .before .before .before .before .before .before .read-query in
     let g = query-right (now (s .args .query)) (q .last .1 .0) (q .last .1 .1 .0) _ (q .ensures) _ _ (c .before .before .t .given .1) in
     sym (length-take-le _ _ (omega (arith, g .few)))
 
-slice-reshare-prefix-with-program-2 : tie.Need-slice-reshare-prefix-with-program-2
-slice-reshare-prefix-with-program-2 c =
+slice-reshare-prefix-with-query-2 : tie.Need-slice-reshare-prefix-with-query-2
+slice-reshare-prefix-with-query-2 c =
     let s = c .before .before .before .before .before .before .before .before .before .before .before .before .before .before .before .before .before .before .before .before in
     let q = c .before .before .before .before .before .before .before .before .read-query in
     let g = query-right (now (s .args .query)) (q .last .1 .0) (q .last .1 .1 .0) _ (q .ensures) _ _ (c .before .before .t .given .1) in
     omega (arith, g .few, g .paid)
 
-slice-aggregate-with-program-2 : tie.Need-slice-aggregate-with-program-2
-slice-aggregate-with-program-2 c =
+slice-aggregate-with-query-2 : tie.Need-slice-aggregate-with-query-2
+slice-aggregate-with-query-2 c =
     let s = c .before .before .before .before .before .before .before .before .before .before .before .before .before .before .before .before .before .before .before .before .before in
     let q = c .before .before .before .before .before .before .before .before .before .read-query in
     let g = query-right (now (s .args .query)) (q .last .1 .0) (q .last .1 .1 .0) _ (q .ensures) _ _ (c .before .before .before .t .given .1) in
     sym (length-take-le _ _ (omega (arith, g .few, g .paid)))
 
-with-program-requires : tie.Need-with-program-requires
-with-program-requires c κs =
+with-query-requires : tie.Need-with-query-requires
+with-query-requires c κs =
     let s = c .before .before .before .before .before .before .before .before .before .before .before .before .before .before .before .before .before .before .before .before .before .before .before .before .before .before in
     let q = c .before .before .before .before .before .before .before .before .before .before .before .before .before .before .read-query in
     let g = query-right (now (s .args .query)) (q .last .1 .0) (q .last .1 .1 .0) _ (q .ensures) _ _ (c .before .before .before .before .before .before .before .before .t .given .1) in
@@ -92,7 +92,7 @@ returns-2 c =
     let f = query-in (now (s .args .query)) (q .last .1 .0) (q .last .1 .1 .0) _ (q .ensures) _ _ (c .before .before .before .before .before .before .before .before .before .before .before .before .before .before .before .before .before .before .before .t .given .1) (omega arith) (omega arith) in
     let g = query-right (now (s .args .query)) (q .last .1 .0) (q .last .1 .1 .0) _ (q .ensures) _ _ (c .before .before .before .before .before .before .before .before .before .before .before .before .before .before .before .before .before .before .before .t .given .1) in
     λ h. with-room (now (s .args .facts)) (now (s .args .query)) (q .last .1 .0) (q .last .1 .1 .0) _ _ _ _ (c .before .before .before .before .before .before .before .before .before .before .before .before .before .before .before .before .before .before .before .t .given .0 .0) (c .before .before .before .before .before .before .before .before .before .before .before .before .before .before .before .before .before .before .before .t .given .0 .1 .0) (omega (arith, g .few)) (omega (arith, g .few, g .paid))
-    (c .before .before .before .before .before .before .before .before .before .before .with-program .ensures _ _ h f)
+    (c .before .before .before .before .before .before .before .before .before .before .with-query .ensures _ _ h f)
 
 pub with-facts-spec : {M : Type 1} → statement M
 with-facts-spec =
@@ -101,11 +101,11 @@ with-facts-spec =
     read-query-requires
     enum-known-q
     enum-known-t
-    slice-reshare-prefix-with-program
-    slice-aggregate-with-program
-    slice-reshare-prefix-with-program-2
-    slice-aggregate-with-program-2
-    with-program-requires
+    slice-reshare-prefix-with-query
+    slice-aggregate-with-query
+    slice-reshare-prefix-with-query-2
+    slice-aggregate-with-query-2
+    with-query-requires
     same-length
     same-length-2
     returns

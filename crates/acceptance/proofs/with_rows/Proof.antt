@@ -22,7 +22,7 @@ returns c =
     let s = c .before .before .before .before .before .before .before .before .before .before .before .before in
     λ ids known given relations ts p k f q n right.
     strings-full (now (s .args .facts)) (now (s .args .query)) given (now (s .args .places)) (s .args .c) f (now (s .args .tokens)) (now (s .args .words)) ts p q ids known relations (s .args .relations) k n right _ _ _ (c .before .p .given .1)
-    (c .before .before .before .before .before .enter-strings .ensures ts p (q .parsed))
+    (c .before .before .before .before .before .enter-strings .ensures ts p (q .query-in .parsed))
 
 same-length-2 : tie.Need-same-length-2
 same-length-2 c = search needs
@@ -32,7 +32,7 @@ returns-2 c =
     let s = c .before .before .before .before .before .before .before .before .before .before .before .before in
     λ ids known given relations ts p k f q n right.
     strings-in (now (s .args .facts)) (now (s .args .query)) given (now (s .args .places)) (s .args .c) f (now (s .args .tokens)) (now (s .args .words)) ts p q ids known relations (s .args .relations) k n right _ _ _ (c .before .u .given .1)
-    (c .before .before .before .before .before .enter-strings .ensures ts p (q .parsed)) (omega arith)
+    (c .before .before .before .before .before .enter-strings .ensures ts p (q .query-in .parsed)) (omega arith)
 
 pub with-rows-spec : {M : Type 1} → statement M
 with-rows-spec =

@@ -1,6 +1,6 @@
 use Rattle.free.specs.Words.{free-word}
 use mathlib.Core.Path.{refl, sym, _∙_}
-use borrow.Author.Tests.{lt-ltb, le-ltb}
+use borrow.Author.Tests.{eq-eqb, ne-eqb, lt-ltb, le-ltb}
 use native.Mathlib.Omega.{arith}
 use borrow.Author.Needs.{needs}
 use Rattle.free.proofs.free_word.Statement.{statement}
@@ -36,12 +36,19 @@ returns-3 : tie.Need-returns-3
 unfolding free-word
 returns-3 c = (rw (← c .before .before .before .before .before .word-at .ensures) (simp (sym (c .before .before .before .before .is-leaf .ensures) ∙ c .before .before .before .if1 .left, le-ltb _ _ (c .before .before .if2 .left), lt-ltb _ _ (c .before .if3 .taken)) (c .terms-before2 .ensures .0)), c .terms-before2 .ensures .1)
 
-operator-requires : tie.Need-operator-requires
-operator-requires c κs = search needs
+terms-before-requires-3 : tie.Need-terms-before-requires-3
+terms-before-requires-3 c κs = search needs
 
 returns-4 : tie.Need-returns-4
 unfolding free-word
-returns-4 c = (rw (← c .before .before .before .before .before .word-at .ensures) (simp (sym (c .before .before .before .before .is-leaf .ensures) ∙ c .before .before .before .if1 .left, le-ltb _ _ (c .before .before .if2 .left), le-ltb _ _ (c .before .if3 .left)) (c .operator .ensures .0)), c .operator .ensures .1)
+returns-4 c = (rw (← c .before .before .before .before .before .before .word-at .ensures) (simp (sym (c .before .before .before .before .before .is-leaf .ensures) ∙ c .before .before .before .before .if1 .left, le-ltb _ _ (c .before .before .before .if2 .left), le-ltb _ _ (c .before .before .if3 .left), eq-eqb _ _ (c .before .if4 .taken)) (c .terms-before3 .ensures .0)), c .terms-before3 .ensures .1)
+
+operator-requires : tie.Need-operator-requires
+operator-requires c κs = search needs
+
+returns-5 : tie.Need-returns-5
+unfolding free-word
+returns-5 c = (rw (← c .before .before .before .before .before .before .word-at .ensures) (simp (sym (c .before .before .before .before .before .is-leaf .ensures) ∙ c .before .before .before .before .if1 .left, le-ltb _ _ (c .before .before .before .if2 .left), le-ltb _ _ (c .before .before .if3 .left), ne-eqb _ _ (c .before .if4 .left)) (c .operator .ensures .0)), c .operator .ensures .1)
 
 pub free-word-spec : {M : Type 1} → statement M
 free-word-spec =
@@ -56,5 +63,7 @@ free-word-spec =
     returns-2
     terms-before-requires-2
     returns-3
+    terms-before-requires-3
+    returns-4
     operator-requires
-    returns-4)
+    returns-5)

@@ -95,7 +95,11 @@ returns-16 c =
     is-mark (c .longer5 .ensures) (c .before .match .keys16) (more (a .y) (a .z))
 
 returns-17 : tie.Need-returns-17
-returns-17 c = let a = c .before .args in no-mark (a .x) (a .y) (a .z) (c .match .rest)
+unfolding first-mark marks starts terminal-of sign-of quote-of
+returns-17 c = is-mark refl (c .match .keys17) (record { piece = λ xs. refl; small = small 49 1 tt tt })
+
+returns-18 : tie.Need-returns-18
+returns-18 c = let a = c .before .args in no-mark (a .x) (a .y) (a .z) (c .match .rest)
 
 pub mark-of-spec : {M : Type 1} → statement M
 mark-of-spec =
@@ -123,4 +127,5 @@ mark-of-spec =
     returns-14
     returns-15
     returns-16
-    returns-17)
+    returns-17
+    returns-18)

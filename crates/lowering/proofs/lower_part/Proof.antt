@@ -3,22 +3,22 @@ use mathlib.Core.Path.{_≡_, refl, sym}
 use lib.ListN.{length, length-set}
 use native.Mathlib.Omega.{arith}
 use borrow.Author.Needs.{needs}
-use Rattle.lowering.specs.Lowering.{at, closures-before, lower-at, Filled}
+use Rattle.lowering.specs.Lowering.{at, halves, closures-before, lower-at, Filled}
 use Rattle.lowering.proofs.Filling.{none-before, closures-on, filled-start, filled-on, part-word, filled-end}
 use Rattle.lowering.proofs.lower_part.Statement.{statement}
 use Rattle.lowering.proofs.lower_part.Tie as tie
 
 abbrev Inv-loop : tie.InvT-loop
-Inv-loop words codes tokens free low₀ u lo hi c₀ k₀ low c k =
+Inv-loop facts query places words codes tokens free low₀ u lo hi c₀ k₀ low c k =
     (lo ≤ k) × (k ≤ hi) × (c ≤ k) × (length low ≡ length low₀) × (c ≡ closures-before (at words) lo k)
-    × Filled (lower-at (at words) (at codes) (at tokens) (at free) u lo) lo k low₀ low
+    × Filled (lower-at (at words) (at codes) (at tokens) (at free) (halves facts query places (at tokens)) u lo) lo k low₀ low
 
 abbrev μ-loop : tie.MeasureT-loop
-μ-loop words codes tokens free low₀ u lo hi c₀ k₀ low c k = hi - k
+μ-loop facts query places words codes tokens free low₀ u lo hi c₀ k₀ low c k = hi - k
 
 loop-holds : tie.Need-loop-holds Inv-loop μ-loop
 loop-holds c =
-    let a = c .before .before .before .before .before .args in
+    let a = c .before .before .before .before .before .before .before .before .args in
     (omega arith, omega arith, omega arith, refl, sym (none-before (at (a .words .now)) (a .lo) (a .lo) (omega arith)), filled-start _ (a .lo) _)
 
 lower-word-requires : tie.Need-lower-word-requires Inv-loop μ-loop
@@ -48,14 +48,14 @@ loop-less c = omega arith
 loop-again : tie.Need-loop-again Inv-loop μ-loop
 loop-again c =
     let l = c .before .before .before .before .loop in
-    let a = c .before .before .before .before .before .before .before .before .before .before .args in (
+    let a = c .before .before .before .before .before .before .before .before .before .before .before .before .before .args in (
       omega arith,
       omega arith,
       omega arith,
       simp length-set (l .inv .3),
       closures-on (at (a .words .now)) (a .lo) _ _ _ _ (l .inv .0) (c .before .word-at .ensures) (c .one-closure .ensures .0) (l .inv .4),
       filled-on _ (a .lo) (l .k) _ _ (l .low) (l .inv .0) (omega arith)
-          (part-word (at (a .words .now)) (at (a .codes .now)) (at (a .tokens .now)) (at (a .free .now)) _ (a .lo) _ (l .k) _ (c .before .before .lower-word .ensures) (l .inv .4)) (l .inv .5),
+          (part-word (at (a .words .now)) (at (a .codes .now)) (at (a .tokens .now)) (at (a .free .now)) _ _ (a .lo) _ (l .k) _ (c .before .before .lower-word .ensures) (l .inv .4)) (l .inv .5),
     )
 
 same-length : tie.Need-same-length Inv-loop μ-loop

@@ -47,19 +47,23 @@ returns-3 c = (rw (c .match .keys3) refl, omega arith)
 
 returns-4 : tie.Need-returns-4
 unfolding node-p
-returns-4 c = (rw (c .before .before .match .keys4, c .term-byte .ensures .0, c .before .word-at5 .ensures) refl, omega arith)
+returns-4 c = (rw (c .match .keys4) refl, omega arith)
 
 returns-5 : tie.Need-returns-5
 unfolding node-p
-returns-5 c = (rw (c .before .before .match .keys5, c .term-byte2 .ensures .0, c .before .word-at6 .ensures) refl, omega arith)
+returns-5 c = (rw (c .before .before .match .keys5, c .term-byte .ensures .0, c .before .word-at5 .ensures) refl, omega arith)
 
 returns-6 : tie.Need-returns-6
 unfolding node-p
-returns-6 c = (rw (c .before .match .keys6) (c .label-place .ensures .0), c .label-place .ensures .1)
+returns-6 c = (rw (c .before .before .match .keys6, c .term-byte2 .ensures .0, c .before .word-at6 .ensures) refl, omega arith)
 
 returns-7 : tie.Need-returns-7
 unfolding node-p
-returns-7 c = (rw (ne-eqb _ _ (c .match .rest .0 .0 .0 .0 .0 .1), ne-eqb _ _ (c .match .rest .0 .0 .0 .0 .1), ne-eqb _ _ (c .match .rest .0 .0 .0 .1), ne-eqb _ _ (c .match .rest .0 .0 .1), ne-eqb _ _ (c .match .rest .0 .1), ne-eqb _ _ (c .match .rest .1)) refl, omega arith)
+returns-7 c = (rw (c .before .match .keys7) (c .label-place .ensures .0), c .label-place .ensures .1)
+
+returns-8 : tie.Need-returns-8
+unfolding node-p
+returns-8 c = (rw (ne-eqb _ _ (c .match .rest .0 .0 .0 .0 .0 .0 .1), ne-eqb _ _ (c .match .rest .0 .0 .0 .0 .0 .1), ne-eqb _ _ (c .match .rest .0 .0 .0 .0 .1), ne-eqb _ _ (c .match .rest .0 .0 .0 .1), ne-eqb _ _ (c .match .rest .0 .0 .1), ne-eqb _ _ (c .match .rest .0 .1), ne-eqb _ _ (c .match .rest .1)) refl, omega arith)
 
 pub node-p-spec : {M : Type 1} → statement M
 node-p-spec =
@@ -80,4 +84,5 @@ node-p-spec =
     returns-4
     returns-5
     returns-6
-    returns-7)
+    returns-7
+    returns-8)

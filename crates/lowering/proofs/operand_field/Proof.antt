@@ -42,6 +42,9 @@ word-at-requires-3 c κs = search needs
 comparison-field-requires : tie.Need-comparison-field-requires
 comparison-field-requires c κs = search needs
 
+half-field-requires : tie.Need-half-field-requires
+half-field-requires c κs = search needs
+
 word-before-requires-2 : tie.Need-word-before-requires-2
 word-before-requires-2 c κs = search needs
 
@@ -77,15 +80,19 @@ returns-6 c = (rw (c .before .before .before .match .keys6) (c .comparison-field
 
 returns-7 : tie.Need-returns-7
 unfolding operand-field
-returns-7 c = (rw (c .before .before .match .keys7) (c .slots-of .ensures .0 ∙ rw (c .before .word-before2 .ensures) refl), c .slots-of .ensures .1)
+returns-7 c = (rw (c .before .match .keys7) (c .half-field .ensures .0), c .half-field .ensures .1)
 
 returns-8 : tie.Need-returns-8
 unfolding operand-field
-returns-8 c = (rw (c .before .match .keys8) (rw (c .word-at4 .ensures) refl), omega arith)
+returns-8 c = (rw (c .before .before .match .keys8) (c .slots-of .ensures .0 ∙ rw (c .before .word-before2 .ensures) refl), c .slots-of .ensures .1)
 
 returns-9 : tie.Need-returns-9
 unfolding operand-field
-returns-9 c = (rw (ne-eqb _ _ (c .match .rest .0 .0 .0 .0 .0 .0 .0 .1), ne-eqb _ _ (c .match .rest .0 .0 .0 .0 .0 .0 .1), ne-eqb _ _ (c .match .rest .0 .0 .0 .0 .0 .1), ne-eqb _ _ (c .match .rest .0 .0 .0 .0 .1), ne-eqb _ _ (c .match .rest .0 .0 .0 .1), ne-eqb _ _ (c .match .rest .0 .0 .1), ne-eqb _ _ (c .match .rest .0 .1), ne-eqb _ _ (c .match .rest .1)) refl, omega arith)
+returns-9 c = (rw (c .before .match .keys9) (rw (c .word-at4 .ensures) refl), omega arith)
+
+returns-10 : tie.Need-returns-10
+unfolding operand-field
+returns-10 c = (rw (ne-eqb _ _ (c .match .rest .0 .0 .0 .0 .0 .0 .0 .0 .1), ne-eqb _ _ (c .match .rest .0 .0 .0 .0 .0 .0 .0 .1), ne-eqb _ _ (c .match .rest .0 .0 .0 .0 .0 .0 .1), ne-eqb _ _ (c .match .rest .0 .0 .0 .0 .0 .1), ne-eqb _ _ (c .match .rest .0 .0 .0 .0 .1), ne-eqb _ _ (c .match .rest .0 .0 .0 .1), ne-eqb _ _ (c .match .rest .0 .0 .1), ne-eqb _ _ (c .match .rest .0 .1), ne-eqb _ _ (c .match .rest .1)) refl, omega arith)
 
 pub operand-field-spec : {M : Type 1} → statement M
 operand-field-spec =
@@ -103,6 +110,7 @@ operand-field-spec =
     word-at-requires-2
     word-at-requires-3
     comparison-field-requires
+    half-field-requires
     word-before-requires-2
     slots-of-requires
     word-at-requires-4
@@ -114,4 +122,5 @@ operand-field-spec =
     returns-6
     returns-7
     returns-8
-    returns-9)
+    returns-9
+    returns-10)

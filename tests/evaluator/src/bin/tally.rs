@@ -1,5 +1,5 @@
-//! How many generated texts are accepted, how the others are refused, which forms the accepted ones have, and where bytes 13 stand: what
-//! the comparisons reach.
+//! How many generated texts are accepted, how the others are refused, which forms the accepted ones have, what malformed patterns come to,
+//! and where bytes 13 stand: what the comparisons reach.
 use evaluator::generate::{texts, LIMITS};
 use evaluator::{accept, chain, forms};
 use std::collections::BTreeMap;
@@ -14,6 +14,7 @@ fn main() {
         if t.query.contains(&13) {
             *tally.entry("byte 13 in the query".into()).or_default() += 1;
         }
+        forms::malformed(&t.facts, &t.query).into_iter().for_each(|how| *tally.entry(how).or_default() += 1);
         if let Ok(w) = &accepted {
             forms::of(w).into_iter().for_each(|form| *tally.entry(form).or_default() += 1);
         }

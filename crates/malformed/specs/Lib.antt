@@ -1,0 +1,2 @@
+-- The walk over a program's words for its patterns.
+pub mod Walk
