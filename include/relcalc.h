@@ -108,6 +108,10 @@ typedef struct {
    words, 3 takes U * U; tuple (a) is bit a, (a,b) bit b of word a, (a,b,c) bit c of word U * a + b, the empty tuple bit 0, counted from
    the relation's first word; other bits are zero. The words from there to those needed are zero, later ones unchanged. The output holds
    the bytes written, later ones unchanged.
+   A printed tuple is a line: its label, if it has one, and its elements, with one space between. An element is in quotes if a fact
+   quoted it, or if it is empty or holds a space or tab; a label, string or loop variable never is. So PRINT ["R"] R(x,y); with a
+   different attribute for each column gives lines of facts: read as facts, if they are at most 32,768 bytes, they have R's tuples, text
+   for text. If R is empty there is no line.
    Refused, 1 to 14 or 18: ending, steps and written are 0; store and output are unchanged.
    Steps are not time: one step may take long where quantifiers nest (docs/PERFORMANCE.md). */
 relcalc_ran relcalc_run(const uint8_t *facts, size_t facts_len, const uint8_t *query, size_t query_len, uint32_t budget,

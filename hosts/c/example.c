@@ -1,4 +1,4 @@
-/* The worked example, curves picked by a pattern, then a refusal. */
+/* The worked example, curves picked by a pattern, a name with blanks, then a refusal. */
 #include "relcalc.h"
 
 #include <stdio.h>
@@ -26,6 +26,7 @@ int main(void)
 {
     int first = run("Dep(x,y) := TC(On(x,y)); PRINT [\"Dep\"] Dep(x,y);");
     int second = run("PRINT [\"starts with C1:\"] On(x,_) & @\"^C1\"(x);");
-    int third = run("Dep(x) := TC(On(x,y));"); /* y is free on the right side only: refused 12 0 */
-    return !(first == 0 && second == 0 && third == 1);
+    int third = run("Held(\"5Y off the run\"); PRINT [\"Held\"] Held(x);"); /* lines of facts, so the name is in quotes */
+    int fourth = run("Dep(x) := TC(On(x,y));"); /* y is free on the right side only: refused 12 0 */
+    return !(first == 0 && second == 0 && third == 0 && fourth == 1);
 }

@@ -1,5 +1,5 @@
-/* The calls from C: the worked example, facts saved with CR LF, patterns, refusals, null and equal texts, the largest sizes, a small
-   stack. */
+/* The calls from C: the worked example, facts saved with CR LF, patterns, printed quotes, refusals, null and equal texts, the largest
+   sizes, a small stack. */
 #define _POSIX_C_SOURCE 200809L
 #include "lent.h"
 #include "relcalc.h"
@@ -180,6 +180,29 @@ static void patterns(void)
     EXPECT(checked(F, picking("Z"), 0, 0, 4));
 }
 
+static void printed_quotes(void)
+{
+    EXPECT(prints("Held(\"5Y off the run\"); PRINT Held(x);", 2, "\"5Y off the run\"\nB7\n"));
+    EXPECT(prints("Held(\"\"); Held(\" \"); Held(\"a\tb\"); Held(\"C2\"); Held(\"#x\"); PRINT Held(x);", 6,
+                  "\"\"\n\" \"\n#x\nB7\nC2\n\"a\tb\"\n"));
+    EXPECT(prints("R(\"a b\"); FOR v IN R(x) { PRINT v, ENDL, [v] R(x), \"c d\"; }", 4, "a b\na b \"a b\"\nc d"));
+    static const char names[] = "Held(\"a b\"); PRINT Held(x);";
+    EXPECT(ended(run(F, names, 9, store, RELCALC_STORE_WORDS, output, 9), RELCALC_DONE, 2, 9));
+    EXPECT(ended(run(F, names, 9, store, RELCALC_STORE_WORDS, output, 8), RELCALC_FULL, 1, 0));
+}
+
+/* a page of lines of facts, read as facts: the same tuples of texts, and a relation that is absent is empty */
+static void pages_read_back(void)
+{
+    static const char held[] = "Held \"\"\nHeld \"5Y off the run\"\nHeld B7\n", again[] = "PRINT [\"Held\"] Held(x), [\"On\"] On(x,y);";
+    EXPECT(prints("Held(\"5Y off the run\"); Held(\"\"); PRINT [\"Held\"] Held(x);", 3, held));
+    EXPECT(is_part(element(held, again, 0), RELCALC_IN_FACTS, 6, 0));
+    EXPECT(is_part(element(held, again, 1), RELCALC_IN_FACTS, 14, 14));
+    EXPECT(is_part(element(held, again, 2), RELCALC_IN_FACTS, 35, 2));
+    EXPECT(ended(run(held, again, 9, store, RELCALC_STORE_WORDS, output, sizeof output), RELCALC_DONE, 1, strlen(held)));
+    EXPECT(store[0] == 7 && !memcmp(output, held, strlen(held)));
+}
+
 static void refused_patterns(void)
 {
     static const char *const wrong[] = {"", "a|", "()", "*a", "^*", "a**", "a{3}", "(a", "a)", "[]", "[b-a]", "[[:alpha:]]", "\\"};
@@ -312,6 +335,8 @@ int main(void)
     returns_elsewhere();
     patterns();
     refused_patterns();
+    printed_quotes();
+    pages_read_back();
     refusals();
     empty_and_equal();
     largest_sizes();

@@ -238,7 +238,11 @@ class Relcalc:
         return Checked(a.universe, a.words, relations)
 
     def run(self, facts, query, budget=1_000_000, words=STORE_WORDS, room=32768):
-        """Runs the query over the facts with a store of so many words and room for so many bytes."""
+        """Runs the query over the facts with a store of so many words and room for so many bytes.
+
+        An element is printed in quotes if a fact quoted it, or if it is empty or holds a blank, so the lines of `PRINT ["R"] R(x,y);`
+        can be read back as facts.
+        """
         if not 0 <= budget < 2**32:
             raise ValueError("a budget has 32 bits")
         store, output = _room(ctypes.c_uint64, words), _room(ctypes.c_uint8, room)

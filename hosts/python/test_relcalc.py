@@ -1,5 +1,5 @@
-"""The wrapper over the shared object: the worked example, facts saved with CR LF, patterns, refusals, empty and equal texts, the largest
-sizes."""
+"""The wrapper over the shared object: the worked example, facts saved with CR LF, patterns, printed quotes, refusals, empty and equal
+texts, the largest sizes."""
 import itertools
 import os
 import re
@@ -195,6 +195,30 @@ class Host(unittest.TestCase):
             self.assertEqual((ran.ending, ran.output), (Ending.DONE, page), query)
         self.assertEqual(rc.check(FACTS, b'PRINT @"Z"(x);').universe, 4)
 
+    def test_printed_quotes(self):
+        for query, page in [
+            (b'Held("5Y off the run"); PRINT Held(x);', b'"5Y off the run"\nB7\n'),
+            (b'Held(""); Held(" "); Held("a\tb"); Held("C2"); PRINT Held(x);', b'""\n" "\nB7\nC2\n"a\tb"\n'),
+            (b'R("a b","c",""); PRINT R(x,y,z);', b'"a b" c ""\n'),
+            (b'Held("#x"); Held(".y"); Held("a,b"); PRINT Held(x);', b"#x\n.y\nB7\na,b\n"),
+            (b'R("a b"); FOR v IN R(x) { PRINT v, ENDL, [v] R(x), "c d", ENDL; }', b'a b\na b "a b"\nc d\n'),
+        ]:
+            ran = rc.run(FACTS, query)
+            self.assertEqual((ran.ending, ran.output), (Ending.DONE, page), query)
+            self.assertEqual(rc.run(FACTS, query, room=len(page) - 1).ending, Ending.FULL)
+        self.assertEqual(rc.run(b'R a\nS "a"\nR b\n', b'R("b"); PRINT R(x);').output, b'"a"\nb\n')
+
+    def test_pages_read_back(self):
+        held = rc.run(FACTS, b'Held("5Y off the run"); Held(""); PRINT ["Held"] Held(x);').output
+        self.assertEqual(held, b'Held ""\nHeld "5Y off the run"\nHeld B7\n')
+        query = b'PRINT ["Held"] Held(x), ["P"] P(), ["On"] On(x,y);'
+        texts = [rc.element(held, query, n).of(held, query) for n in range(rc.check(held, query).universe)]
+        self.assertEqual(texts, [b"", b"5Y off the run", b"B7"])
+        ran = rc.run(held, query)
+        self.assertEqual((ran.store[0], ran.output), (0b111, held))
+        self.assertEqual(rc.run(b"", b'P(); PRINT ["P"] P();').output, b"P\n")
+        self.assertEqual(rc.run(b"P\n", query).output, b"P\n")
+
     def test_refused_patterns(self):
         for pattern, _, _ in NO_PATTERNS:
             self.refused(Refusal.PATTERN, 7, rc.check, FACTS, picking(pattern))
@@ -355,7 +379,7 @@ class Host(unittest.TestCase):
             else:
                 continue
             checked += 1
-        self.assertEqual(checked, 42)
+        self.assertEqual(checked, 47)
         self.refused(Refusal.TOO_MANY_RELATIONS, 0, rc.check, "".join(f"R{i}\n" for i in range(16)), "New();")
         self.refused(Refusal.TOO_MANY_ELEMENTS, 5, rc.check, "".join(f"Held {i}\n" for i in range(64)), 'Held("New");')
 

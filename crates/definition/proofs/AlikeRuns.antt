@@ -14,7 +14,7 @@ use Rattle.definition.specs.Tables.{Tuple, holds, table, tuples, closure
 use Rattle.definition.specs.Accept.{Accepted, relation-words, largest-words, scratch-words, words-needed}
 use Rattle.definition.specs.Meaning.{Tables, Environment, bind, bind-all, table-of, compares-relations, choices, readings, mean, answers}
 use Rattle.definition.specs.Assignment.{loaded, columns, fits, differs, assigned, assign-tables, element-text}
-use Rattle.definition.specs.Print.{is-quoted, shown, bare, item-text, print-text}
+use Rattle.definition.specs.Print.{is-quoted, in-quotes, shown, bare, item-text, print-text}
 use Rattle.definition.specs.Run.{Task, assigning, printing, testing, repeating, ranging, taking, step, next-of, start, point}
 use Rattle.definition.proofs.ListLaws.{Each, each-none, each-one, each-some}
 use Rattle.definition.proofs.AlikeLaws.{SameFact, SameRelation, SameAccepted, same-loaded}
@@ -118,7 +118,7 @@ module _ (universe : List Text) (variables : Text → Bool) (program : Program) 
   quoted-same t = each-some _ _ (λ f g h. each-some _ _ (λ e d k. rw (k .value, k .quoted)) (h .elements)) facts
 
   shown-same : (a : ℕ) → shown w a ≡ shown v a
-  unfolding shown
+  unfolding shown in-quotes
   shown-same a = rw (quoted-same (element-text w a))
 
   bare-same : (env : Environment) (p : Term) → bare w env p ≡ bare v env p

@@ -1,10 +1,13 @@
--- A test over a list, and the lists that a function gives, where two lists follow each other; lists that are related one by one.
+-- A test over a list, and the lists that a function gives, where two lists follow each other; lists that are related one by one,
+-- and lists whose every element has a property.
 use mathlib.Core.Path.{_≡_, refl, sym, ap, ap₂, _∙_}
-use mathlib.Core.Bool.{Bool, _&&_, _||_, and-assoc, or-assoc}
+use mathlib.Core.Bool.{Bool, true, false, _&&_, _||_, cond, and-assoc, or-assoc}
 use mathlib.Core.List.{List, [], _∷_, _++_, map, append-assoc, append-nil}
-use Prim.Native.Nat.{suc}
-use lib.ListN.{length}
-use Rattle.definition.specs.Text.{some-of, all-of, gather}
+use Prim.Native.Nat.{ℕ, zero, suc, _<_}
+use native.Mathlib.Nat.{le-of-suc-le-suc}
+use native.Mathlib.Omega.{arith}
+use lib.ListN.{length, getD}
+use Rattle.definition.specs.Text.{some-of, all-of, keep, gather}
 
 pub some-append : {A : Type 0} (p : A → Bool) (xs ys : List A) → some-of p (xs ++ ys) ≡ some-of p xs || some-of p ys
 unfolding some-of
@@ -52,3 +55,72 @@ module _ {A B : Type 0} {R : A → B → Type 0} where
   pub each-map : {C : Type 0} (f : A → C) (g : B → C) → ((a : A) (b : B) → R a b → f a ≡ g b) → {xs : List A} {ys : List B} → Each R xs ys → map f xs ≡ map g ys
   each-map f g e each-none = refl
   each-map f g e (each-one {a} {b} h hs) = ap₂ _∷_ (e a b h) (each-map f g e hs)
+
+-- a list whose every element has a property
+pub data Every {A : Type 0} (P : A → Type 0) : List A → Type 0 where
+  every-none : Every P []
+  every-one : {a : A} {xs : List A} → P a → Every P xs → Every P (a ∷ xs)
+
+module _ {A : Type 0} {P : A → Type 0} where
+  pub every-head : {x : A} {xs : List A} → Every P (x ∷ xs) → P x
+  every-head (every-one h hs) = h
+
+  pub every-tail : {x : A} {xs : List A} → Every P (x ∷ xs) → Every P xs
+  every-tail (every-one h hs) = hs
+
+  pub every-both : {xs ys : List A} → Every P xs → Every P ys → Every P (xs ++ ys)
+  every-both every-none k = k
+  every-both (every-one h hs) k = every-one h (every-both hs k)
+
+  pub every-right : (xs : List A) {ys : List A} → Every P (xs ++ ys) → Every P ys
+  every-right [] h = h
+  every-right (x ∷ xs) (every-one h hs) = every-right xs hs
+
+  pub every-at : {xs : List A} → Every P xs → (d : A) (k : ℕ) → k < length xs → P (getD xs k d)
+  every-at every-none d k h = absurd (omega arith)
+  every-at (every-one h hs) d zero l = h
+  every-at (every-one h hs) d (suc k) l = every-at hs d k (le-of-suc-le-suc l)
+
+  pub every-keep : {xs : List A} (p : A → Bool) → Every P xs → Every P (keep p xs)
+  unfolding keep
+  every-keep p every-none = every-none
+  every-keep p (every-one {a = x} {xs} h hs) = go (p x) (every-keep p hs)
+    where
+      go : (b : Bool) → Every P (keep p xs) → Every P (cond b (x ∷ keep p xs) (keep p xs))
+      go true k = every-one h k
+      go false k = k
+
+  pub every-weaken : {Q : A → Type 0} → ((x : A) → P x → Q x) → {xs : List A} → Every P xs → Every Q xs
+  every-weaken f every-none = every-none
+  every-weaken f (every-one {a} h hs) = every-one (f a h) (every-weaken f hs)
+
+module _ {A B : Type 0} {P : B → Type 0} where
+  pub every-map : (f : A → B) {xs : List A} → Every (λ x. P (f x)) xs → Every P (map f xs)
+  every-map f every-none = every-none
+  every-map f (every-one h hs) = every-one h (every-map f hs)
+
+  pub every-gather : (f : A → List B) {xs : List A} → Every (λ x. Every P (f x)) xs → Every P (gather f xs)
+  unfolding gather
+  every-gather f every-none = every-none
+  every-gather f (every-one h hs) = every-both h (every-gather f hs)
+
+module _ {A : Type 0} where
+  pub keep-same : (p q : A → Bool) {xs : List A} → Every (λ x. p x ≡ q x) xs → keep p xs ≡ keep q xs
+  unfolding keep
+  keep-same p q every-none = refl
+  keep-same p q (every-one h hs) = rw (h, keep-same p q hs)
+
+  pub keep-all : (p : A → Bool) {xs : List A} → Every (λ x. p x ≡ true) xs → keep p xs ≡ xs
+  unfolding keep
+  keep-all p every-none = refl
+  keep-all p (every-one h hs) = rw (h, keep-all p hs)
+
+  pub keep-none : (p : A → Bool) {xs : List A} → Every (λ x. p x ≡ false) xs → keep p xs ≡ []
+  unfolding keep
+  keep-none p every-none = refl
+  keep-none p (every-one h hs) = rw (h, keep-none p hs)
+
+pub gather-map : {A B C : Type 0} (f : B → List C) (g : A → B) (xs : List A) → gather f (map g xs) ≡ gather (λ x. f (g x)) xs
+unfolding gather
+gather-map f g [] = refl
+gather-map f g (x ∷ xs) = ap (λ l. f (g x) ++ l) (gather-map f g xs)

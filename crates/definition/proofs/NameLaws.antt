@@ -174,6 +174,10 @@ becomes-right p v w e = subst (Right p v) e (rule-right p v)
 first-right : (p : Role) (v : Known) (n : ℕ) → rule p v ≡ first n → Right p v (first n)
 first-right p v n e = subst (Right p v) e (rule-right p v)
 
+-- a relation is added where nothing was known of its name
+pub first-unknown : (p : Role) (v : Known) (n : ℕ) → rule p v ≡ first n → v ≡ nothing
+first-unknown p v n e = first-right p v n e .0
+
 -- of a name that is not used nothing changes, and of the name used its kind is kept
 learn-keeps : (known : Text → Known) (x : Text) (v : Known) → Keeps (known x) v → (y : Text) → Keeps (known y) (learn x v known y)
 learn-keeps known x v h y = go (decide (same x y))
@@ -273,7 +277,7 @@ numbered-new i (r ∷ rs) q e = go (same (q .name) (r .name)) e (numbered-new (s
 pub record Numbered (k : Kinds) : Type 0 where
   pub by-place : (x : Text) → as-relation (k .known x) ≡ numbered 0 (k .relations) x
 
-used-numbered : {k : Kinds} {p : Role} {t : Token} {l : Kinds} → Used k p t l → Numbered k → Numbered l
+pub used-numbered : {k : Kinds} {p : Role} {t : Token} {l : Kinds} → Used k p t l → Numbered k → Numbered l
 used-numbered {k} {p} {t} (kept v e) n = record { by-place = λ y. go y (decide (same (t .text) y)) }
   where
     x : Text

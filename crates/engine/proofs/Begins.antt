@@ -82,7 +82,7 @@ module _ (facts query : Text) (tokens words ids known relations places : List â„
           size = size-is;
           relations-are = r .relations-are;
           universe-is = sym (r .filled .universe);
-          shows = filled-shows facts query tokens words places w (r .filled);
+          shows = filled-shows facts query tokens words places w (r .filled) (r .ts) (r .parsed);
           code =
               subst (Code w query front [] (w .program) 0)
               (code-length facts query w tokens ids known relations words places front (length relations) (r .kinds) (r .ts) no-depths lowering) c;

@@ -1,6 +1,6 @@
-// Runs the worked cases of document 01, texts that a wrong engine would answer otherwise, patterns, and texts that are refused, each with its
-// own budget, store and output. Prints the case's letter, what the text is for or the row, with the query; then what the calls answer and how
-// many bytes of the output are as they were lent.
+// Runs the worked cases of document 01, texts that a wrong engine would answer otherwise, patterns, elements in quotes, and texts that are
+// refused, each with its own budget, store and output. Prints the case's letter, what the text is for or the row, with the query; then what
+// the calls answer and how many bytes of the output are as they were lent.
 use definition::Checked;
 use definition::Figures;
 use definition::Ran;
@@ -293,6 +293,25 @@ fn patterns_refused<'a>(facts: &'a [u8]) {
     run_all(b"row 18", facts, b"PRINT x, @\"a**\"(x);");
 }
 
+// "an element is printed in quotes if a fact quoted it, or if it is empty or holds a space or tab"; strings and loop variables stay bare.
+fn quotes() {
+    run_all(
+        b"empty, a space, a tab, none",
+        b"Held B7\n",
+        b"Held(\"5Y off the run\"); Held(\"\"); Held(\"a\tb\"); Held(\"plain\"); PRINT Held(x);",
+    );
+    run_all(
+        b"quoted by a fact",
+        b"Held \"B7\"\nHeld C5\n",
+        b"Held(\"B7\"); Held(\"C5\"); Held(\"C 5\"); PRINT Held(x);",
+    );
+    run_all(
+        b"labels and loop variables",
+        b"Held B7\n",
+        b"Held(\"5Y off the run\"); FOR v IN Held(x) { PRINT v, ENDL, [v] x = v, [\"a label\"] x = v; }",
+    );
+}
+
 fn main() {
     let f = b"On C10 C5\nOn C5 C2\nOn B7 C10\nHeld B7\n";
     let dep = b"Dep(x,y) := TC(On(x,y)); PRINT [\"Dep\"] Dep(x,y);";
@@ -309,4 +328,5 @@ fn main() {
     limits(f);
     patterns(f);
     patterns_refused(f);
+    quotes();
 }

@@ -5,6 +5,7 @@ use mathlib.Core.List.{List, [], _∷_, _++_, map, map-append}
 use mathlib.Core.Bool.{Bool, true, false, cond}
 use native.Mathlib.Numerals.{add-one}
 use native.Mathlib.Omega.{arith}
+use mir.Val.{boolByte}
 use lib.Dec.{ltb}
 use lib.ListN.{length, getD, take, drop, drop-of-length-le}
 use lib.Seq.{length-take-le, drop-cons, take-suc, getD-take, take-all}
@@ -29,6 +30,11 @@ use Rattle.facts.specs.Pass.{limits-of, UniverseUsed}
 pub facts-text : (facts query : Text) (offset len tag : ℕ) → len < 64 → tag < 4 → text-of facts query (pack 0 offset len tag) ≡ take len (drop offset facts)
 unfolding text-of
 facts-text facts query offset len tag n t = ap (part-text facts query) (pack-part 0 offset len tag (omega arith) n t)
+
+-- a tag that is the number of a test
+pub tag-is : (b : Bool) → boolByte b ≡ cond b 1 0
+tag-is true = refl
+tag-is false = refl
 
 pub tag-small : (b : Bool) → cond b 1 0 < 4
 tag-small true = omega arith

@@ -10,7 +10,7 @@ use Rattle.definition.specs.Text.{if_then_else_, Text, gather}
 use Rattle.definition.specs.Tables.{Tuple}
 use Rattle.definition.specs.Accept.{Accepted, elements}
 use Rattle.definition.specs.Assignment.{element-text}
-use Rattle.definition.specs.Print.{spaced, is-quoted, shown}
+use Rattle.definition.specs.Print.{spaced, in-quotes, shown}
 use Rattle.definition.proofs.TableLaws.{Below}
 use Rattle.tuples.proofs.Turns.{rest-cons, rest-none}
 use Rattle.parts.specs.Packed.{tag-of}
@@ -58,10 +58,10 @@ module _ (T : Texts) where
   unfolding gather
   after-none n k t h = ap (gather (after T)) (sym (rest-none n k t h))
 
--- the places are those of the universe's elements: each has its element's text, and its tag says whether some fact quoted it
+-- the places are those of the universe's elements: each has its element's text, and its tag says whether it is printed in quotes
 pub record Shows (w : Accepted) (T : Texts) : Type 0 where
   pub text : (a : ℕ) → a < elements w → element-at T a ≡ element-text w a
-  pub quoted : (a : ℕ) → a < elements w → eqb (tag-of (getD (T .places) a 0)) 1 ≡ is-quoted w (element-text w a)
+  pub quoted : (a : ℕ) → a < elements w → eqb (tag-of (getD (T .places) a 0)) 1 ≡ in-quotes w (element-text w a)
 
 module _ (w : Accepted) (T : Texts) (s : Shows w T) where
   shown-same : (a : ℕ) → a < elements w → shown-at T a ≡ shown w a

@@ -8,7 +8,7 @@ use Rattle.definition.specs.Tables.{Tuple}
 use Rattle.definition.specs.Print.{spaced}
 use Rattle.parts.specs.Packed.{tag-of, text-of}
 
--- the two texts, and for each element the part of one of them that it is, with tag 1 if some fact quoted it
+-- the two texts, and for each element the part of one of them that it is, with tag 1 if it is printed in quotes
 pub record Texts : Type 0 where
   pub facts : Text
   pub query : Text
@@ -20,7 +20,7 @@ texts f q p = record { facts = f; query = q; places = p }
 abbrev pub element-at : Texts → ℕ → Text
 element-at T a = text-of (T .facts) (T .query) (getD (T .places) a 0)
 
--- "An element is printed in quotes if some fact quoted it"
+-- an element as it is printed, in quotes where its tag says so
 unfoldable pub shown-at : Texts → ℕ → Text
 shown-at T a = if eqb (tag-of (getD (T .places) a 0)) 1 then (34 ∷ element-at T a ++ (34 ∷ [])) else (element-at T a)
 

@@ -100,7 +100,7 @@ pub fn longest(places: &[usize]) -> usize
     m
 }
 
-// Puts an element, in quotes where some fact quoted it.
+// Puts an element, in quotes where its tag says so.
 fn put_shown<'a>(
     facts: &'a [u8],
     query: &'a [u8],

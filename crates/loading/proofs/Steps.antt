@@ -10,7 +10,7 @@ use lib.Seq.{sets, length-take-le, take-at, drop-at}
 use Rattle.definition.specs.Text.{Text, same, member, some-of, span, gather}
 use Rattle.definition.specs.Limits.{Limits, document-01}
 use Rattle.definition.specs.Answer.{Answer, ok, _>>=_}
-use Rattle.definition.specs.Facts.{Relation, Fact, Facts, Line, use-relation, use-elements, with-fact, last-place, skipped, fact, read-lines, fact-lines, Ascending}
+use Rattle.definition.specs.Facts.{Relation, Fact, Facts, Line, with-fact, skipped, fact, read-lines, fact-lines, Ascending}
 use Rattle.definition.specs.Tables.{Tuple, table, table-words}
 use Rattle.definition.specs.Accept.{Accepted, accept, elements, relation-words, scratch-words, words-needed}
 use Rattle.definition.specs.Names.{left-strings}
@@ -19,7 +19,9 @@ use Rattle.definition.specs.Claim.{table-image, store-image}
 use Rattle.definition.proofs.BoolLaws.{or-right}
 use Rattle.definition.proofs.TableLaws.{length-table}
 use Rattle.definition.proofs.RelationLaws.{place-of}
-use Rattle.definition.proofs.AcceptLaws.{ok-injective, bind-ok, parts, universe, has, in-facts}
+use Rattle.definition.proofs.ListLaws.{Every, every-head, every-right}
+use Rattle.definition.proofs.AcceptLaws.{ok-injective, bind-ok, fact-added, lines-read, parts, universe, has, in-facts}
+use Rattle.definition.proofs.NamedLaws.{HasArity, accepted-named}
 use Rattle.definition.proofs.UniverseSize.{universe-few}
 use Rattle.tuples.specs.Places.{with-tuple}
 use Rattle.tuples.proofs.Loading.{Alone, here, there, Numbered, tables-by, tables-by-none, tables-by-all, store-grows}
@@ -31,17 +33,10 @@ use Rattle.facts.specs.Words.{fact-at, line-word, relations-of}
 use Rattle.facts.specs.Reading.{answered, line-facts, facts-from}
 use Rattle.facts.proofs.UseLaws.{facts-text}
 use Rattle.loading.specs.Given.{tuple-at, Ready, Loaded, AllLoaded}
-use Rattle.loading.proofs.Named.{alone, fitted-at, Fitted, lines-read, accepted-named}
+use Rattle.loading.proofs.Named.{alone}
 use Rattle.loading.proofs.Tuples.{in-one, short-items, numbered}
 
 -- ---- the accepted facts are those that are read again
-
-one-more : (limits : Limits) (s : Facts) (f : Fact) (u : Facts) → with-fact limits s f ≡ ok u → u .facts ≡ s .facts ++ (f ∷ [])
-unfolding with-fact
-one-more limits s f u e =
-    let (rs, p, g) = bind-ok (use-relation limits (record { name = f .name; arity = length (f .elements); text = 0; at = f .at }) (last-place (f .at) (f .elements)) (s .relations)) _ u e in
-    let (us, p′, g′) = bind-ok (use-elements limits (f .elements) (s .universe)) _ u g in
-    ap (λ (v : Facts). v .facts) (sym (ok-injective g′))
 
 lines-facts : (limits : Limits) (ls : List Line) (s t : Facts) → read-lines limits ls s ≡ ok t → t .facts ≡ s .facts ++ gather line-facts ls
 unfolding read-lines gather line-facts
@@ -54,7 +49,7 @@ lines-facts limits (l ∷ ls) s t e = go (skipped (l .bytes)) e (λ s e. lines-f
     go false e ih =
         let (f, p, q) = bind-ok (fact l) _ t e in
         let (u, p′, q′) = bind-ok (with-fact limits s f) _ t q in
-        ih u q′ ∙ ap (λ (fs : List Fact). fs ++ gather line-facts ls) (one-more limits s f u p′) ∙ append-assoc (s .facts) (f ∷ []) (gather line-facts ls)
+        ih u q′ ∙ ap (λ (fs : List Fact). fs ++ gather line-facts ls) (sym (fact-added limits s f u p′ .facts)) ∙ append-assoc (s .facts) (f ∷ []) (gather line-facts ls)
         ∙ ap (λ (a : Answer Fact). s .facts ++ (answered a ++ gather line-facts ls)) (sym p)
 
 accepted-again : (limits : Limits) (facts query : Text) (w : Accepted) → accept limits facts query ≡ ok w → w .facts ≡ facts-from facts 0
@@ -175,9 +170,9 @@ module _ (facts query : Text) (relations places firsts : List ℕ) (u : ℕ) (w 
     only : Alone (this .name) (length tuple) (w .relations) k
     only =
         let named = accepted-named document-01 facts query w (r .accepted) in
-        let fit = fitted-at (l .so-far) this gs (subst (Fitted (w .relations)) (l .all) (named .fitted)) in
+        let fit : HasArity (w .relations) this = every-head (every-right (l .so-far) (subst (Every (HasArity (w .relations))) (l .all) (named .fitted))) in
         let e : length (this .elements) ≡ length tuple = length-map (items-of f) _ ∙ sym (length-map (items-of f) _) in
-        subst (Alone (this .name) (length tuple) (w .relations)) (sym relation-place) (alone (this .name) (length tuple) (named .distinct) (fit ∙ ap (λ (m : ℕ). m ∷ []) e))
+        subst (Alone (this .name) (length tuple) (w .relations)) (sym relation-place) (alone (this .name) (length tuple) (w .relations) (named .distinct) (fit ∙ ap (λ (m : ℕ). m ∷ []) e))
 
     first : getD firsts k 0 ≡ relation-words (elements w) (take k (w .relations))
     first = r .laid .relations k (room (elements w) only .0)

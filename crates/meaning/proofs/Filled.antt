@@ -15,7 +15,6 @@ use Rattle.definition.specs.Tables.{Tuple, bit, holds, table, closure}
 use Rattle.definition.specs.Accept.{Accepted, elements}
 use Rattle.definition.specs.Meaning.{Tables, Environment, bind, bind-all, mean, nowhere}
 use Rattle.definition.specs.Meaning as Definition
-use Rattle.definition.proofs.BoolLaws.{not-both}
 use Rattle.definition.proofs.MeaningLaws.{member-first}
 use Rattle.bits.proofs.Laws.{word-same}
 use Rattle.closure.proofs.Laws.{row-table, rows-table, table-of-rows}
@@ -31,7 +30,8 @@ use Rattle.closures.proofs.Fills.{fill-other, fill-here}
 use Rattle.meaning.specs.Lowered.{root, closure-count, Naming, Lowered}
 use Rattle.meaning.specs.Ready.{Loops, Fits, Tabled, Closes, Held}
 use Rattle.meaning.proofs.Fit.{fits-bind, rest-in}
-use Rattle.meaning.proofs.Distinct.{Distinct, free-distinct}
+use Rattle.definition.proofs.DistinctLaws.{Distinct, distinct-head}
+use Rattle.meaning.proofs.Distinct.{free-distinct}
 use Rattle.meaning.proofs.Means.{root-last, means}
 
 neither : (b : Bool) → _≡_ {A = ℕ} (cond b 11 12) 21 → ⊥
@@ -115,18 +115,19 @@ module _ (w : Accepted) (β : Text → ℕ) (loops : List Text) (vs : List ℕ) 
   -- two attributes, each at its slot
   pair-fits : (xs : List Text) (i j a b : ℕ) (env : Environment) → map (λ x. operand (β x)) xs ≡ slot i ∷ slot j ∷ [] → Distinct xs → a < u → b < u → Loops w β loops vs env
       → Fits w β loops vs xs (bind-all xs (a ∷ b ∷ []) env) (set (set (replicate 8 0) i a) j b)
-  unfolding bind-all Distinct
+  unfolding bind-all
   pair-fits [] i j a b env e d ha hb l = let z : _≡_ {A = ℕ} 0 1 = cc in absurd (omega arith)
   pair-fits (x ∷ []) i j a b env e d ha hb l = let z : _≡_ {A = ℕ} 0 1 = cc in absurd (omega arith)
   pair-fits (x ∷ y ∷ z ∷ xs) i j a b env e d ha hb l = let z : _≡_ {A = ℕ} 0 1 = cc in absurd (omega arith)
   pair-fits (x ∷ y ∷ []) i j a b env e d ha hb l =
       let ox : operand (β x) ≡ slot i = cc in
       let oy : operand (β y) ≡ slot j = cc in
+      let apart : member x (y ∷ []) ≡ false = distinct-head d in
       let none : Fits w β loops vs [] env (replicate 8 0) = record { long = refl; value = λ z m. absurd (unfold member some-of in m); within = λ z m. absurd (unfold member some-of in m); variables = l } in
       let one : Fits w β loops vs (y ∷ []) (bind y b env) (set (replicate 8 0) j b) = fits-bind w β loops vs naming y j b oy hb (λ z m n. rest-in y z [] m n) none in
       let both : Fits w β loops vs (x ∷ y ∷ []) (bind x a (bind y b env)) (set (set (replicate 8 0) j b) i a) = fits-bind w β loops vs naming x i a ox ha (λ z m n. rest-in x z (y ∷ []) m n) one in
       subst (Fits w β loops vs (x ∷ y ∷ []) (bind x a (bind y b env)))
-      (set-comm (replicate 8 0) j i b a (λ q. not-both (member x (y ∷ [])) (same-in x y (naming .apart x y i ox (oy ∙ ap slot q))) (d .0))) both
+      (set-comm (replicate 8 0) j i b a (λ q. subst T apart (same-in x y (naming .apart x y i ox (oy ∙ ap slot q))))) both
 
   module _ (base : ℕ) (places : (c : ℕ) → c < 16 → getD firsts (16 + c) 0 ≡ base + c * u) where
     -- the words of the first c closures and of what stands before them

@@ -1,4 +1,4 @@
--- Lists of parts: those of the universe stand in byte order, and a tag of 1 says that some fact quoted the element.
+-- Lists of parts: those of the universe stand in byte order, and a tag of 1 says that the element is printed in quotes.
 use Prim.Native.Nat.{ℕ, _+_, _≤_}
 use mathlib.Core.Path.{_≡_}
 use mathlib.Core.Bool.{_&&_, not}

@@ -3,3 +3,4 @@ pub mod OrderLaws
 pub mod RunLaws
 pub mod WordTable
 pub mod NameLaws
+pub mod QuoteLaws

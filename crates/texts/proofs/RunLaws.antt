@@ -1,13 +1,15 @@
 -- How a run of bytes that pass a test goes on at one place, and what is known of its end.
 use Prim.Native.Nat.{ℕ, suc, _+_, _<_, _≤_}
-use mathlib.Core.Path.{_≡_, refl}
+use mathlib.Core.Path.{_≡_, refl, _∙_}
 use mathlib.Core.List.{[], _∷_}
-use mathlib.Core.Bool.{Bool, true, false, _&&_, cond}
+use mathlib.Core.Bool.{Bool, true, false, _&&_, _||_, not, cond}
 use native.Mathlib.Numerals.{add-one}
 use native.Mathlib.Omega.{arith}
+use borrow.Author.Tests.{lt-ltb}
+use lib.Dec.{ltb, leb·suc-suc}
 use lib.ListN.{length, getD, drop, drop-of-length-le}
 use lib.Seq.{drop-cons}
-use Rattle.definition.specs.Text.{Text, span, all-of}
+use Rattle.definition.specs.Text.{Text, span, some-of, all-of}
 
 module _ (p : ℕ → Bool) where
   pub run-step : (s : Text) (i : ℕ) → i < length s → p (getD s i 0) ≡ true → i + span p (drop i s) ≡ (i + 1) + span p (drop (i + 1) s)
@@ -49,3 +51,13 @@ module _ (p : ℕ → Bool) where
       go : (b : Bool) → cond b (suc (span p xs)) 0 < suc (length xs) → (span p xs < length xs → all-of p xs ≡ false) → b && all-of p xs ≡ false
       go true e ih = ih (omega arith)
       go false e ih = refl
+
+  -- some byte passes if the run of those that do not ends before the text does
+  pub some-span : (s : Text) → ltb (span (λ y. not (p y)) s) (length s) ≡ some-of p s
+  unfolding span some-of
+  some-span [] = refl
+  some-span (x ∷ xs) = go (p x) (some-span xs)
+    where
+      go : (b : Bool) → ltb (span (λ y. not (p y)) xs) (length xs) ≡ some-of p xs → ltb (cond (not b) (suc (span (λ y. not (p y)) xs)) 0) (suc (length xs)) ≡ b || some-of p xs
+      go true h = lt-ltb 0 (suc (length xs)) (omega arith)
+      go false h = leb·suc-suc (suc (span (λ y. not (p y)) xs)) (length xs) ∙ h

@@ -4,7 +4,7 @@ ghost use mathlib.Core.Bool.{true, false};
 ghost use mathlib.Core.List.{[], _∷_};
 ghost use Prim.Native.Nat.{ℕ, _+_, _≤_, _<_};
 ghost use lib.ListN.{length, drop};
-ghost use Rattle.definition.specs.Text.{same, starts, span, member, reserved, is-letter, is-part, is-legal, is-blank, is-name, between};
+ghost use Rattle.definition.specs.Text.{same, starts, span, member, reserved, is-letter, is-part, is-legal, is-blank, needs-quotes, is-name, between};
 ghost use Rattle.definition.specs.Token.{word-terminal, FIRST-WORD};
 ghost use Rattle.texts.specs.Orders.{order};
 ghost use Rattle.texts.specs.Classes.{is-of};
@@ -178,6 +178,16 @@ pub fn run_end(s: &[u8], at: usize, k: Class) -> usize
         i += 1;
     }
     i
+}
+
+// Whether an element with the text s is printed in quotes though no fact quoted it: "if it is empty or holds a space or tab".
+pub fn needs_quotes(s: &[u8]) -> bool
+    ensures { λ r. ⌜ r ≡ needs-quotes (now (s .entry)) ⌝ }
+{
+    if s.len() == 0 {
+        return true;
+    }
+    run_end(s, 0, Class::Inside) < s.len()
 }
 
 // "Reserved are TRUE, FALSE and the manual's 24 keywords (6.1)": 26 words of up to 7 letters, filled up with blanks.

@@ -2,7 +2,7 @@
 ghost use Prim.Native.Nat.{_+_, _≤_};
 ghost use mathlib.Core.Path.{_≡_};
 ghost use lib.ListN.{length, drop};
-ghost use Rattle.definition.specs.Text.{span, is-name};
+ghost use Rattle.definition.specs.Text.{span, needs-quotes, is-name};
 ghost use Rattle.definition.specs.Text.{same as Text·same};
 ghost use Rattle.texts.specs.Classes.{is-of};
 ghost use Rattle.texts.specs.Orders.{order};
@@ -12,6 +12,7 @@ use texts::Class;
 use texts::Order;
 use texts::compare;
 use texts::is_name;
+use texts::needs_quotes;
 use texts::run_end;
 use texts::same;
 
@@ -41,6 +42,13 @@ fn ends(text: &[u8], at: usize, k: Class, end: usize)
     expect(run_end(text, at, k) == end);
 }
 
+// Whether an element with the text needs quotes.
+fn needs(text: &[u8], quotes: bool)
+    requires { ⌜ needs-quotes (now text) ≡ quotes ⌝ }
+{
+    expect(needs_quotes(text) == quotes);
+}
+
 // Whether the text is a name.
 fn names(text: &[u8], named: bool)
     requires { ⌜ is-name (now text) ≡ named ⌝ }
@@ -61,6 +69,14 @@ fn runs() {
     ends(b"C10", 3, Class::Inside, 3);
 }
 
+// "if it is empty or holds a space or tab"
+fn quotes() {
+    needs(b"", true);
+    needs(b"5Y off the run", true);
+    needs(b"run\t", true);
+    needs(b"plain", false);
+}
+
 fn identifiers() {
     names(b"__", true);
     names(b"a2345678901234567890123456789012", true);
@@ -74,5 +90,6 @@ fn identifiers() {
 fn main() {
     orders();
     runs();
+    quotes();
     identifiers();
 }

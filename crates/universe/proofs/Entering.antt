@@ -1,5 +1,5 @@
 -- The strings on left-hand sides entered into the universe, word by word.
-use Prim.Native.Nat.{ℕ, suc, _+_, _/_, _%_, _<_, _≤_}
+use Prim.Native.Nat.{ℕ, suc, _+_, _/_, _<_, _≤_}
 use mathlib.Core.Path.{_≡_, refl, sym, ap, subst, _∙_}
 use mathlib.Core.Bool.{Bool, true, false, cond}
 use mathlib.Core.List.{List, [], _∷_, _++_, map, map-append}
@@ -15,19 +15,17 @@ use Rattle.definition.specs.Answer.{_>>=_, _>>_, refuse-if}
 use Rattle.definition.specs.Token.{Token}
 use Rattle.definition.specs.Syntax.{Program}
 use Rattle.definition.specs.Facts.{Element, insert, use-elements}
-use Rattle.definition.specs.Calls.{part-text}
 use Rattle.words.specs.Fields.{kind-of, p-of}
-use Rattle.parts.specs.Packed.{text-of}
 use Rattle.parts.specs.Entries.{Held, enter, enter-all, texts-of, in-front, count-in}
 use Rattle.parts.specs.declared.Entered.the-variants as entered
-use Rattle.parts.proofs.PackLaws.{pack-part}
 use Rattle.parts.proofs.HeldLaws.{length-texts, texts-enter, enter-all-longer, enter-all-append, held-first, held-take, held-drop, held-length, held-then, held-front, no-room}
 use Rattle.facts.specs.Pass.{limits-of}
 use Rattle.kinds.specs.Resolved.{Parsed}
-use Rattle.universe.specs.Strings.{LEFT-STRING, string-part, string-element, left-tokens, with-strings, Enters, StringsMeet}
+use Rattle.universe.specs.Strings.{LEFT-STRING, string-word, string-element, left-tokens, with-strings, Enters, StringsMeet}
 use Rattle.universe.specs.declared.Strings.{Strings}
 use Rattle.universe.specs.declared.Strings.the-variants.{Count, Full}
 use Rattle.universe.proofs.LeftStrings.{left-strings-shown}
+use Rattle.universe.proofs.StringWords.{string-text}
 
 -- more elements after others
 pub use-append : (limits : Limits) (xs ys : List Element) (us : List Text) → use-elements limits (xs ++ ys) us ≡ _>>=_ (use-elements limits xs us) (use-elements limits ys)
@@ -50,11 +48,6 @@ left-cons tokens w ws = go (eqb (kind-of w) LEFT-STRING)
     go false = refl
 
 module _ (facts query : Text) where
-  -- the text of a string's part
-  pub string-text : (t : ℕ) → text-of facts query (string-part t) ≡ string-element query t .value
-  unfolding text-of
-  string-text t = ap (part-text facts query) (pack-part 1 (t / 4096 + 1) (t / 64 % 64) 0 (omega arith) (omega arith) (omega arith))
-
   module _ (tokens : List ℕ) (w : ℕ) (old : List ℕ) (n : ℕ) where
     -- a word of no string on a left-hand side
     pub enters-none : (kind-of w ≡ LEFT-STRING → ⊥) → n ≤ length old → Enters facts query (left-tokens tokens (w ∷ [])) old old n (Count n)
@@ -63,14 +56,14 @@ module _ (facts query : Text) where
 
     module _ (h : kind-of w ≡ LEFT-STRING) (t : ℕ) (token : t ≡ getD tokens (p-of w) 0) where
       abbrev es : List ℕ
-      es = enter facts query (string-part t) (take n old)
+      es = enter facts query (string-word query t) (take n old)
 
       is-one : left-tokens tokens (w ∷ []) ≡ t ∷ []
       unfolding left-tokens
       is-one = rw (eq-eqb (kind-of w) LEFT-STRING h, token)
 
       value-in : insert (string-element query t .value) (texts-of facts query (take n old)) ≡ texts-of facts query es
-      value-in = ap (λ (x : Text). insert x (texts-of facts query (take n old))) (sym (string-text t)) ∙ sym (texts-enter facts query (string-part t) (take n old))
+      value-in = ap (λ (x : Text). insert x (texts-of facts query (take n old))) (sym (string-text query t facts)) ∙ sym (texts-enter facts query (string-word query t) (take n old))
 
       pub enters-full : entered.Full ≡ count-in es old → Enters facts query (left-tokens tokens (w ∷ [])) old old n (Full (t / 4096))
       unfolding use-elements
@@ -124,15 +117,15 @@ module _ (facts query : Text) where
         entering-next new′ m r a b =
             let g : Enters facts query (left-tokens tokens (getD words i 0 ∷ [])) new new′ count (Count m) = subst (Enters facts query (left-tokens tokens (getD words i 0 ∷ [])) new new′ count) a b in
             let e : take m new′ ≡ with-strings facts query (left-tokens tokens (getD words i 0 ∷ [])) (take count new) = held-take (g .0) in
-            let t : count ≤ m = omega (arith, h .held .count, g .0 .count, enter-all-longer facts query (map string-part (left-tokens tokens (getD words i 0 ∷ []))) (take count new)) in
+            let t : count ≤ m = omega (arith, h .held .count, g .0 .count, enter-all-longer facts query (map (string-word query) (left-tokens tokens (getD words i 0 ∷ []))) (take count new)) in
             record {
               held = held-then (h .held) (subst (λ (xs : List ℕ). Held new new′ xs m) (sym e) (g .0)) t;
               more = omega (arith, h .more);
               parts =
                   h .parts
                   ∙ ap (λ (ts : List ℕ). with-strings facts query ts (take count new)) rest-is
-                  ∙ ap (λ (vs : List ℕ). enter-all facts query vs (take count new)) (map-append string-part (left-tokens tokens (getD words i 0 ∷ [])) (left-tokens tokens (drop (i + 1) words)))
-                  ∙ enter-all-append facts query (map string-part (left-tokens tokens (getD words i 0 ∷ []))) (map string-part (left-tokens tokens (drop (i + 1) words))) (take count new)
+                  ∙ ap (λ (vs : List ℕ). enter-all facts query vs (take count new)) (map-append (string-word query) (left-tokens tokens (getD words i 0 ∷ [])) (left-tokens tokens (drop (i + 1) words)))
+                  ∙ enter-all-append facts query (map (string-word query) (left-tokens tokens (getD words i 0 ∷ []))) (map (string-word query) (left-tokens tokens (drop (i + 1) words))) (take count new)
                   ∙ ap (with-strings facts query (left-tokens tokens (drop (i + 1) words))) (sym e);
               uses = λ k. uses-on k ∙ rw (g .1 k, e);
             }

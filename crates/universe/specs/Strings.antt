@@ -5,7 +5,7 @@ use mathlib.Core.Bool.{true, cond}
 use mathlib.Core.List.{List, [], _∷_, map}
 use lib.Dec.{eqb}
 use lib.ListN.{length, getD, take, drop}
-use Rattle.definition.specs.Text.{Text}
+use Rattle.definition.specs.Text.{Text, needs-quotes}
 use Rattle.definition.specs.Limits.{document-01}
 use Rattle.definition.specs.Answer.{ok, refused}
 use Rattle.definition.specs.Syntax.{Program}
@@ -22,13 +22,13 @@ use Rattle.universe.specs.declared.Strings.the-variants.{Count, Full}
 abbrev pub LEFT-STRING : ℕ
 LEFT-STRING = 42
 
--- the part of the query that is the text of a string's token, after the opening quote; its tag is 0, since it is no fact that quotes it
-abbrev pub string-part : ℕ → ℕ
-string-part t = pack 1 (t / 4096 + 1) (t / 64 % 64) 0
-
--- the same as an element of the definition
+-- the element of a string's token: the text of the query after the opening quote
 abbrev pub string-element : Text → ℕ → Element
 string-element query t = record { value = take (t / 64 % 64) (drop (t / 4096 + 1) query); quoted = true; at = t / 4096 }
+
+-- the same as a part of the query, with tag 1 where it is printed in quotes though no fact quotes it: "if it is empty or holds a space or tab"
+abbrev pub string-word : Text → ℕ → ℕ
+string-word query t = pack 1 (t / 4096 + 1) (t / 64 % 64) (cond (needs-quotes (string-element query t .value)) 1 0)
 
 -- the tokens of the strings on left-hand sides, in order
 unfoldable pub left-tokens : List ℕ → List ℕ → List ℕ
@@ -38,7 +38,7 @@ left-tokens tokens (w ∷ ws) = let r = left-tokens tokens ws in cond (eqb (kind
 module _ (facts query : Text) where
   -- a universe with the strings of some tokens
   abbrev pub with-strings : List ℕ → List ℕ → List ℕ
-  with-strings ts us = enter-all facts query (map string-part ts) us
+  with-strings ts us = enter-all facts query (map (string-word query) ts) us
 
   -- the strings of some tokens entered after the first n parts
   abbrev pub Enters : List ℕ → List ℕ → List ℕ → ℕ → Strings → Type 0

@@ -7,9 +7,11 @@ ghost use Rattle.definition.specs.Token.{Token};
 ghost use Rattle.definition.specs.Syntax.{Program};
 ghost use Rattle.words.specs.Fields.{p-of};
 ghost use Rattle.kinds.specs.Resolved.{Parsed};
-ghost use Rattle.universe.specs.Strings.{string-part, left-tokens, Enters, StringsMeet};
+ghost use Rattle.universe.specs.Strings.{string-word, left-tokens, Enters, StringsMeet};
 use parts::Entered;
 use parts::enter_part;
+use parts::part;
+use texts::needs_quotes;
 
 // The token of a string's word; 0 past the end.
 fn token_of(tokens: &[u64], w: u64) -> u64
@@ -19,12 +21,14 @@ fn token_of(tokens: &[u64], w: u64) -> u64
     if t < tokens.len() { tokens[t] } else { 0 }
 }
 
-// The part of the query that is the text of a string's token: no fact quotes it.
-fn string_part(t: u64) -> usize
-    ensures { λ r. ⌜ r ≡ string-part t ⌝ }
+// The part of the query that is the text of a string's token, with tag 1 where it is printed in quotes though no fact quotes it.
+fn string_word(query: &[u8], t: u64) -> usize
+    ensures { λ r. ⌜ r ≡ string-word (now (query .entry)) t ⌝ }
 {
     let start = lexer::place(t) + 1;
-    (start * 64 + lexer::text_length(t)) * 8 + 4
+    let n = lexer::text_length(t);
+    let tag = needs_quotes(part(query, start, n)) as usize;
+    (start * 64 + n) * 8 + 4 + tag
 }
 
 // How many elements there are with the strings, or the place of the one for which there is no room.
@@ -49,7 +53,7 @@ fn enter_string<'a>(
         return Strings::Count(n);
     }
     let t = token_of(tokens, w);
-    match enter_part(facts, query, places, n, string_part(t)) {
+    match enter_part(facts, query, places, n, string_word(query, t)) {
         Entered::Full => Strings::Full(lexer::place(t)),
         Entered::Count(m) => Strings::Count(m),
     }

@@ -152,7 +152,8 @@ pub fn check(facts: &[u8], query: &[u8]) -> Result<Checked, Refused> {
     Ok(Checked { universe: a.universe as usize, words: a.words as usize, relations })
 }
 
-/// Runs the query over the facts; on refusal store and output are unchanged.
+/// Runs the query over the facts; on refusal store and output are unchanged. An element is printed in quotes if a fact quoted it, or if
+/// it is empty or holds a blank, so the lines of `PRINT ["R"] R(x,y);` can be read back as facts.
 pub fn run(facts: &[u8], query: &[u8], budget: u32, store: &mut [u64], output: &mut [u8]) -> Result<Ran, Refused> {
     let a = c::run(facts, query, budget, store, output);
     accepted(a.refusal, a.place)?;

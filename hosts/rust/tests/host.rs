@@ -1,4 +1,5 @@
-//! The wrapper over the archive: the worked example, facts saved with CR LF, patterns, refusals, empty and equal texts, largest sizes.
+//! The wrapper over the archive: the worked example, facts saved with CR LF, patterns, printed quotes, refusals, empty and equal texts,
+//! largest sizes.
 use relcalc::{chain, check, element, explain, run, Ending, Explained, Fault, Refusal, Refused, Text, CHAIN_BYTES, STORE_WORDS};
 
 const FACTS: &[u8] = b"On C10 C5\nOn C5 C2\nOn B7 C10\nHeld B7\n";
@@ -218,6 +219,30 @@ fn patterns() {
     assert_eq!(page("PRINT !@ /* a */ \"C\" // b\n (x);"), "B7\n");
     assert_eq!(page("Held(\"D.1\"); Held(\"DX1\"); PRINT @\"D[.]1\"(x);"), "D.1\n");
     assert_eq!(check(FACTS, picking("Z").as_bytes()).unwrap().universe, 4);
+}
+
+#[test]
+fn printed_quotes() {
+    assert_eq!(page("Held(\"5Y off the run\"); PRINT Held(x);"), "\"5Y off the run\"\nB7\n");
+    let kinds = "Held(\"\"); Held(\" \"); Held(\"a\tb\"); Held(\"C2\"); Held(\"#x\"); PRINT Held(x);";
+    assert_eq!(page(kinds), "\"\"\n\" \"\n#x\nB7\nC2\n\"a\tb\"\n");
+    assert_eq!(page("R(\"a b\"); FOR v IN R(x) { PRINT v, ENDL, [v] R(x), \"c d\"; }"), "a b\na b \"a b\"\nc d");
+    let (mut store, mut output) = ([0; 64], [0; 10]);
+    let ran = run(b"R a\nS \"a\"\nR b\n", b"R(\"b\"); PRINT R(x);", 9, &mut store, &mut output).unwrap();
+    assert_eq!(&output[..ran.written], b"\"a\"\nb\n");
+}
+
+#[test]
+fn pages_read_back() {
+    let held = page("Held(\"5Y off the run\"); Held(\"\"); PRINT [\"Held\"] Held(x);");
+    assert_eq!(held, "Held \"\"\nHeld \"5Y off the run\"\nHeld B7\n");
+    // another relation is absent, so it is empty
+    let (facts, query) = (held.as_bytes(), b"PRINT [\"Held\"] Held(x), [\"On\"] On(x,y);");
+    let texts: Vec<&[u8]> = (0..3).map(|n| element(facts, query, n).unwrap().of(facts, query)).collect();
+    assert_eq!(texts, [&b""[..], b"5Y off the run", b"B7"]);
+    let (mut store, mut output) = (vec![0; check(facts, query).unwrap().words], vec![0; facts.len()]);
+    let ran = run(facts, query, 1, &mut store, &mut output).unwrap();
+    assert_eq!((ran.ending, store[0], &output[..ran.written]), (Ending::Done, 0b111, facts));
 }
 
 #[test]

@@ -8,12 +8,12 @@ use std::fmt;
 
 pub type Difference = Result<(), String>;
 
-/// How often each refusal and ending was met.
+/// How often each refusal, each ending and each kind of relation read back was met.
 #[derive(Default)]
 pub struct Met(BTreeMap<String, usize>);
 
 impl Met {
-    fn add(&mut self, what: String) {
+    pub fn add(&mut self, what: String) {
         *self.0.entry(what).or_default() += 1;
     }
     fn refused(&mut self, call: &str, r: &Refusal) {
@@ -25,7 +25,11 @@ impl Met {
         let run = (1..=14).chain([18]).map(|r| format!("run {r:2}"));
         let chain = (1..=7).chain(15..=17).map(|r| format!("chain {r:2}"));
         let endings = ["run Done", "run Spent", "run Full", "check accepted", "chain found"].map(String::from);
-        let never: Vec<String> = check.chain(run).chain(chain).chain(endings).filter(|w| !self.0.contains_key(w)).collect();
+        let tuples = (0..=3).flat_map(|n| ["no tuple", "each tuple"].map(|which| format!("read back: {which} of {n}")));
+        let pages = ["page of 32767", "page of 32768", "elements in quotes for their texts alone"].map(|what| format!("read back: {what}"));
+        let left = ["page too long", "query at its limit", "run not done"].map(|why| format!("not read back: {why}"));
+        let due = check.chain(run).chain(chain).chain(endings).chain(tuples).chain(pages).chain(left);
+        let never: Vec<String> = due.filter(|w| !self.0.contains_key(w)).collect();
         if never.is_empty() { Ok(()) } else { Err(format!("never met: {}", never.join(", "))) }
     }
 }

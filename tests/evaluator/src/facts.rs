@@ -52,6 +52,13 @@ pub struct Facts {
     pub universe: BTreeSet<Vec<u8>>,
 }
 
+impl Facts {
+    /// Whether some fact quotes this element.
+    pub fn quote(&self, text: &[u8]) -> bool {
+        self.facts.iter().flat_map(|f| &f.elements).any(|e| e.quoted && e.value == text)
+    }
+}
+
 /// The lines that are read, each with the place of its first byte and without its end: "one byte 13 directly before byte 10, or as the last
 /// byte of the text, belong to the line end".
 fn lines(text: &[u8]) -> Vec<(usize, &[u8])> {
@@ -69,6 +76,11 @@ fn lines(text: &[u8]) -> Vec<(usize, &[u8])> {
 
 fn is_blank(b: u8) -> bool {
     b == b' ' || b == 9
+}
+
+/// Whether a line can hold a text as an element in quotes alone: "only a quoted one may hold blanks", and a bare one is "not empty".
+pub fn needs_quotes(text: &[u8]) -> bool {
+    text.is_empty() || text.iter().any(|&b| is_blank(b))
 }
 
 /// The elements of a line after its name; row 4, and row 5 at a fourth.

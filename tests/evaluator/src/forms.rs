@@ -1,11 +1,12 @@
-//! Which forms the expressions, patterns and statements of accepted texts have, how texts with a malformed pattern are refused, and where
-//! bytes 13 stand in texts, by name: what the tally counts.
-use crate::facts::is_legal;
+//! Which forms the expressions, patterns, statements and printed elements of accepted texts have, how texts with a malformed pattern are
+//! refused, and where bytes 13 stand in texts, by name: what the tally counts.
+use crate::facts::{is_legal, needs_quotes};
+use crate::names::left_strings;
 use crate::parse::{Expr, Item, Stmt, Term};
 use crate::pattern::{self, Pattern};
 use crate::picked::SPECIAL;
 use crate::tokens::{self, Kind, Token};
-use crate::{accept, pattern_strings, Accepted};
+use crate::{accept, pattern_strings, Accepted, Ran};
 use std::collections::BTreeSet;
 
 pub struct Forms<'a> {
@@ -201,8 +202,49 @@ pub fn of(texts: &Accepted) -> Vec<String> {
     if !texts.patterns.is_empty() {
         forms.add("text with patterns".into());
     }
+    left_strings(&texts.program).iter().for_each(|t| forms.add(format!("left-hand string {}", element(texts, &t.text))));
     forms.statements(&texts.program);
     forms.found
+}
+
+/// What decides whether an element is printed in quotes: its text, and how facts give it.
+fn element(w: &Accepted, text: &[u8]) -> String {
+    let blanks = match (text.contains(&b' '), text.contains(&9)) {
+        _ if text.is_empty() => "empty",
+        (true, true) => "with space and tab",
+        (true, false) => "with a space",
+        (false, true) => "with a tab",
+        _ => "without blanks",
+    };
+    let facts = match (w.facts.quote(text), w.facts.universe.contains(text)) {
+        (true, _) => "quoted by a fact",
+        (_, true) => "bare in facts",
+        _ => "in no fact",
+    };
+    format!("{blanks}, {facts}")
+}
+
+fn quotes(w: &Accepted, text: &[u8]) -> &'static str {
+    match (w.facts.quote(text), needs_quotes(text)) {
+        (true, true) => "in quotes for a fact and for its text",
+        (true, false) => "in quotes for a fact alone",
+        (false, true) => "in quotes for its text alone",
+        _ => "bare",
+    }
+}
+
+/// Which elements a run prints and how, each once; the last PRINT is the one that comparisons also try with a byte too few.
+pub fn printed(w: &Accepted, ran: &Ran) -> Vec<String> {
+    let of = |bits: u64| (0..w.universe.len()).filter(move |a| bits >> a & 1 == 1).map(|a| &w.universe[a]);
+    let mut found: Vec<String> = of(ran.printed.in_tuples).map(|e| format!("printed in a tuple: {}", element(w, e))).collect();
+    found.extend(of(ran.printed.in_tuples).map(|e| format!("printed {}", quotes(w, e))));
+    found.extend(of(ran.printed.as_items).map(|e| format!("printed as a loop's item: {}", element(w, e))));
+    found.extend(of(ran.printed.as_labels).map(|e| format!("printed as a loop's label: {}", element(w, e))));
+    let start = ran.pages.iter().rev().find(|&&page| page < ran.output.len()).copied().unwrap_or(0);
+    // no other byte is a quote
+    let in_quotes: BTreeSet<&str> = ran.output[start..].split(|&b| b == b'"').skip(1).step_by(2).map(|e| quotes(w, e)).collect();
+    found.extend(in_quotes.iter().map(|how| format!("last PRINT with elements {how}")));
+    found
 }
 
 /// How a text with a malformed pattern is refused: for which fault of it, and what would be next if there were none, or for what else.

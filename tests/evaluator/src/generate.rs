@@ -1,7 +1,7 @@
 //! Texts for comparisons: facts and queries that are mostly accepted, the same with damage, texts with several faults, and texts at each
-//! limit of document 01; some of them saved with CR LF, as Paper 1 of document 02 allows for facts, or with bytes 13 elsewhere, and some
-//! with patterns, as Paper 2 adds them.
-use crate::{accept, picked, saved, shapes};
+//! limit of document 01; some of them saved with CR LF, as Paper 1 of document 02 allows for facts, or with bytes 13 elsewhere, some with
+//! patterns, as Paper 2 adds them, and some that print what left-hand sides enter, as Paper 3 wants it.
+use crate::{accept, entered, picked, saved, shapes};
 
 /// A small generator of pseudo-random numbers: the same seed gives the same texts on every machine.
 pub struct Random(u64);
@@ -391,7 +391,7 @@ fn repeated(n: usize, f: impl Fn(usize) -> String) -> String {
 }
 
 /// The limits of documents 01 and 02 that texts can meet.
-pub const LIMITS: usize = 48;
+pub const LIMITS: usize = 51;
 
 /// Texts one below a limit (past 0), at it (1) or one past it (2). Where a document asks for an exact number, that is the middle one.
 pub fn limit(kind: usize, past: usize) -> (Vec<u8>, Vec<u8>) {
@@ -401,6 +401,7 @@ pub fn limit(kind: usize, past: usize) -> (Vec<u8>, Vec<u8>) {
     let plain = "On(x,y) := On(y,x); PRINT On(x,y);".to_string();
     let few = "On C10 C5\nOn C5 C2\nOn B7 C10\nHeld B7\n".to_string();
     let single = "Held B7\n".to_string();
+    let two_bytes = |count: usize| repeated(count, |i| format!("A {i:02}\n"));
     let (facts, query) = match kind {
         0 => (format!("{:#<width$}", "On a b\n#", width = n(32768)), plain),
         1 => (format!("Held {}\n", "e".repeat(n(32))), plain),
@@ -450,6 +451,10 @@ pub fn limit(kind: usize, past: usize) -> (Vec<u8>, Vec<u8>) {
         44 => (repeated(10, |i| format!("Held e{}\n", "c".repeat(i))), format!("PRINT @\"^e(c){{{},8}}$\"(x);", n(8))),
         45 => (few, format!("PRINT EX({}, P(){});", names(0, n(4)), repeated(n(4), |i| format!(" | @\"C\"(a{i})")))),
         46 => (repeated(n(64), |i| format!("Held e{i}\n")), "PRINT @\"[13]$\"(x); FOR c IN @\"^e[^5-9]{1,1}$\"(x) { Held(x) := Held(x) & !@\"6\"(x) & @\"e\"(c); }".into()),
+        // a relation's page: 32,767 bytes, 32,768 and 32,769, or 32,768 with each tuple of the universe
+        47 => (two_bytes(63), format!("On(x,y) := A(x) & A(y) & (x < \"57\" | x = \"57\" & y < \"48\"); On(\"{:>width$}\",\"00\");", "s", width = n(8))),
+        48 => (two_bytes(n(63)), "S(\"\",x) := TRUE(x); S(x,y) := TRUE(x,y);".into()),
+        49 => (repeated(n(16), |i| format!("A {}\n", (b'a' + i as u8) as char)), "T(x,y,z) := TRUE(x,y,z);".into()),
         _ => {
             let tables = repeated(16, |r| format!("R{r} e0 e0 e0\n"));
             (format!("{tables}{}", repeated(n(64), |i| format!("R0 e{i} e{} e0\n", (i + 1) % 62))), "R1(x,y,z) := R0(x,z,y); PRINT R1(x,y,z);".into())
@@ -526,13 +531,16 @@ fn fewer_facts(facts: &mut Vec<u8>, query: &[u8]) -> u64 {
     }
 }
 
-/// The comparison of this number: first each limit below, at and above it, then limits, shapes and random texts, some damaged and some
-/// saved with CR LF.
+/// The comparison of this number: first each limit below, at and above it, then limits, shapes, strings entered and printed, and random
+/// texts, some damaged and some saved with CR LF.
 pub fn texts(number: u64) -> Texts {
     let r = &mut Random::new(number);
     let limits = 3 * LIMITS as u64;
     if number >= limits && r.one_in(5) {
         return shaped(r);
+    }
+    if number >= limits && r.one_in(8) {
+        return entering(r);
     }
     let (mut facts, mut query) = match number {
         k if k < limits => limit((k / 3) as usize, (k % 3) as usize),
@@ -580,4 +588,14 @@ fn shaped(r: &mut Random) -> Texts {
     let budget = (*r.pick(&[2, 5, 10, 50])).min(8 * NODES / nodes) as u32;
     let room = *r.pick(&[0, 10, 100, 1000, 40_000, 40_000]);
     Texts { facts, query, budget, spare: r.below(4) as i64, room, elements: r.one_in(30), chains: Vec::new() }
+}
+
+/// Strings that are entered and printed, with budgets that mostly reach the PRINTs; a third of the buffers are short for them.
+fn entering(r: &mut Random) -> Texts {
+    let (facts, query) = entered::texts(r);
+    let facts = if r.one_in(8) { saved::facts(r, &facts) } else { facts };
+    let budget = *r.pick(&[4, 8, 50, 200, 200]);
+    let room = if r.one_in(3) { r.below(60) } else { 4000 };
+    let chains = chains(r, &facts);
+    Texts { facts, query, budget, spare: r.below(4) as i64, room, elements: true, chains }
 }

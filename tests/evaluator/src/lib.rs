@@ -2,6 +2,7 @@
 //! shares no fault with the engine or its definition.
 pub mod cases;
 pub mod either_way;
+pub mod entered;
 pub mod facts;
 pub mod forms;
 pub mod generate;
@@ -12,6 +13,7 @@ pub mod nodes;
 pub mod parse;
 pub mod pattern;
 pub mod picked;
+pub mod read_back;
 pub mod run;
 pub mod saved;
 pub mod shapes;
@@ -22,7 +24,7 @@ use meaning::{Row, Set, World};
 use names::Names;
 use parse::Stmt;
 use pattern::Pattern;
-use run::{Ending, Run};
+use run::{Ending, Printed, Run};
 use std::cell::OnceCell;
 use std::collections::{BTreeMap, BTreeSet};
 use tokens::{Kind, Token};
@@ -132,6 +134,7 @@ pub struct Ran {
     pub output: Vec<u8>,
     /// the output's length after each PRINT
     pub pages: Vec<usize>,
+    pub printed: Printed,
     /// the relations' words, in store order
     pub tables: Vec<u64>,
 }
@@ -154,10 +157,10 @@ impl Accepted {
         let world = World { universe: &self.universe, names: &self.names, matching, tables: self.loaded(), variables: BTreeMap::new() };
         let quoted: BTreeSet<usize> =
             self.facts.facts.iter().flat_map(|f| &f.elements).filter(|e| e.quoted).map(|e| self.number(&e.value)).collect();
-        let mut run = Run { world, quoted, budget: budget as u64, room, steps: 0, output: Vec::new(), pages: Vec::new() };
+        let mut run = Run { world, quoted, budget: budget as u64, room, steps: 0, output: Vec::new(), pages: Vec::new(), printed: Printed::default() };
         let ending = run.program(&self.program);
         let tables = self.names.relations.iter().flat_map(|r| self.words(&run.world.tables[&r.name], r.arity)).collect();
-        Ok(Ran { ending, steps: run.steps, output: run.output, pages: run.pages, tables })
+        Ok(Ran { ending, steps: run.steps, output: run.output, pages: run.pages, printed: run.printed, tables })
     }
     fn element(&self, n: usize) -> [usize; 3] {
         let Some(text) = self.universe.get(n) else {

@@ -23,6 +23,10 @@ impl Names {
     pub fn is_variable(&self, name: &[u8]) -> bool {
         matches!(self.kinds.get(name), Some(Kind::Variable { .. }))
     }
+    /// Whether a name is an attribute, or none yet.
+    pub fn may_be_attribute(&self, name: &[u8]) -> bool {
+        matches!(self.kinds.get(name), None | Some(Kind::Attribute))
+    }
 
     fn relation(&mut self, t: &Token, arity: usize) -> Res {
         match self.kinds.get(&t.text) {
@@ -39,13 +43,11 @@ impl Names {
         }
     }
     fn attribute(&mut self, t: &Token) -> Res {
-        match self.kinds.get(&t.text) {
-            None | Some(Kind::Attribute) => {
-                self.kinds.insert(t.text.clone(), Kind::Attribute);
-                Ok(())
-            }
-            Some(_) => Err((11, t.at)),
+        if !self.may_be_attribute(&t.text) {
+            return Err((11, t.at));
         }
+        self.kinds.insert(t.text.clone(), Kind::Attribute);
+        Ok(())
     }
     fn term(&mut self, p: &Term) -> Res {
         match p {

@@ -1,5 +1,6 @@
 //! Texts for Paper 2 of document 02: patterns of each form and patterns with one byte wrong, elements that match and elements that would
 //! but for one byte, and programs that pick the one by the other.
+use crate::facts::needs_quotes;
 use crate::generate::Random;
 use crate::pattern::{read, Pattern};
 use std::collections::BTreeSet;
@@ -227,7 +228,7 @@ pub fn elements(r: &mut Random, patterns: &[String], size: usize) -> Vec<String>
 
 /// An element as facts give it: in quotes where it needs them, and at times where it does not.
 pub fn in_facts(r: &mut Random, e: &str) -> String {
-    if e.is_empty() || e.contains([' ', '\t']) || r.one_in(9) { format!("\"{e}\"") } else { e.to_string() }
+    if needs_quotes(e.as_bytes()) || r.one_in(9) { format!("\"{e}\"") } else { e.to_string() }
 }
 
 /// A pattern's string, at times with blanks or comments around it.

@@ -1,4 +1,5 @@
 //! Statements, big-step: the run under a budget and a buffer.
+use crate::facts::needs_quotes;
 use crate::meaning::{Result as Rows, Row, Set, World};
 use crate::parse::{Expr, Item, Stmt, Term};
 use std::collections::BTreeSet;
@@ -10,6 +11,29 @@ pub enum Ending {
     Full,
 }
 
+/// The elements that are printed, a bit for each: in tuples, and as what loop variables stand for.
+#[derive(Clone, Copy, Default, PartialEq, Debug)]
+pub struct Printed {
+    pub in_tuples: u64,
+    pub as_items: u64,
+    pub as_labels: u64,
+}
+
+impl Printed {
+    fn add(&mut self, more: Printed) {
+        self.in_tuples |= more.in_tuples;
+        self.as_items |= more.as_items;
+        self.as_labels |= more.as_labels;
+    }
+}
+
+/// What one PRINT adds to the output.
+#[derive(Default)]
+struct Page {
+    bytes: Vec<u8>,
+    printed: Printed,
+}
+
 pub struct Run<'a> {
     pub world: World<'a>,
     /// the elements that some fact quoted
@@ -19,6 +43,7 @@ pub struct Run<'a> {
     pub steps: u64,
     pub output: Vec<u8>,
     pub pages: Vec<usize>,
+    pub printed: Printed,
 }
 
 type Res = Result<(), Ending>;
@@ -54,29 +79,40 @@ impl Run<'_> {
         left.iter().zip(t.iter()).any(|(p, a)| matches!(p, Term::Quoted(s) if self.world.universe[a] != s.text))
     }
 
-    fn bare(&self, p: &Term) -> Vec<u8> {
+    /// A string or a loop variable's element, which quotes are never put around.
+    fn bare(&self, p: &Term, printed: &mut u64) -> Vec<u8> {
         match p {
             Term::Quoted(t) => t.text.clone(),
-            Term::Name(t) => self.world.universe[self.world.variables[&t.text]].clone(),
+            Term::Name(t) => {
+                let a = self.world.variables[&t.text];
+                *printed |= 1 << a;
+                self.world.universe[a].clone()
+            }
             Term::Any => unreachable!(),
         }
     }
-    fn shown(&self, a: usize) -> Vec<u8> {
+    /// An element of a tuple: "in quotes if a fact quoted it, or if it is empty or holds a space or tab". No other byte brings quotes.
+    fn shown(&self, a: usize, printed: &mut u64) -> Vec<u8> {
+        *printed |= 1 << a;
         let text = &self.world.universe[a];
-        if self.quoted.contains(&a) {
+        if self.quoted.contains(&a) || needs_quotes(text) {
             return [b"\"", text.as_slice(), b"\""].concat();
         }
         text.clone()
     }
-    fn item(&self, i: &Item, page: &mut Vec<u8>) {
+    fn item(&self, i: &Item, page: &mut Page) {
         match i {
-            Item::Endl => page.push(10),
-            Item::Word(p) => page.extend(self.bare(p)),
+            Item::Endl => page.bytes.push(10),
+            Item::Word(p) => {
+                let word = self.bare(p, &mut page.printed.as_items);
+                page.bytes.extend(word);
+            }
             Item::Rows(label, e) => {
                 for row in self.world.eval(e).rows {
-                    let parts: Vec<Vec<u8>> = label.iter().map(|p| self.bare(p)).chain(row.iter().map(|a| self.shown(a))).collect();
-                    page.extend(parts.join(&b' '));
-                    page.push(10);
+                    let mut parts: Vec<Vec<u8>> = label.iter().map(|p| self.bare(p, &mut page.printed.as_labels)).collect();
+                    parts.extend(row.iter().map(|a| self.shown(a, &mut page.printed.in_tuples)));
+                    page.bytes.extend(parts.join(&b' '));
+                    page.bytes.push(10);
                 }
             }
         }
@@ -91,12 +127,13 @@ impl Run<'_> {
             }
             Stmt::Print(_, items) => {
                 self.test_budget()?;
-                let mut page = Vec::new();
+                let mut page = Page::default();
                 items.iter().for_each(|i| self.item(i, &mut page));
-                if self.output.len() + page.len() > self.room {
+                if self.output.len() + page.bytes.len() > self.room {
                     return Err(Ending::Full);
                 }
-                self.output.extend(page);
+                self.output.extend(page.bytes);
+                self.printed.add(page.printed);
                 self.pages.push(self.output.len());
                 self.steps += 1;
             }

@@ -2,7 +2,7 @@
 //! or bind nothing, "_", strings, loop variables and repeated attributes in each place, closures and relation comparisons under
 //! quantifiers, joins of several atoms, and every kind of left side and printed column.
 use crate::generate::Random;
-use crate::picked;
+use crate::{entered, picked};
 
 const RELATIONS: [(&str, usize); 8] = [("On", 2), ("Held", 1), ("T", 3), ("Dep", 2), ("P", 0), ("All", 1), ("Q", 2), ("R", 1)];
 const ATTRIBUTES: [&str; 4] = ["x", "y", "z", "w"];
@@ -51,7 +51,7 @@ fn elements(r: &mut Random, size: usize, patterns: &[String]) -> Vec<String> {
 
 struct Writer<'a> {
     r: &'a mut Random,
-    /// those of the facts, then one or two that only left sides have
+    /// those of the facts, then two that left sides have, most times alone
     strings: Vec<String>,
     given: usize,
     patterns: Vec<String>,
@@ -315,7 +315,7 @@ pub fn texts(r: &mut Random) -> (Vec<u8>, Vec<u8>) {
     patterns.extend(strings.iter().take(2).map(|_| picked::pattern_of(r, &strings)));
     let most = (1..=4).filter(|n| size.pow(*n as u32) <= ROWS).max().unwrap_or(1);
     let attributes = if r.one_in(60) { 3 } else { 1 + r.below(most) };
-    strings.extend(["new".to_string(), "f".to_string()]);
+    strings.extend([entered::string(r), "f".to_string()]);
     let w = &mut Writer { r, strings, given: size, patterns, attributes, open: Vec::new(), closures: 0 };
     let query: String = (0..1 + w.r.below(4)).map(|_| w.statement(2)).collect();
     (facts.into_bytes(), query.into_bytes())

@@ -1,18 +1,11 @@
 use borrow.Author.Needs.{needs}
 use Prim.Native.Nat.{ℕ, _+_, _<_}
-use mathlib.Core.Path.{_≡_, refl, sym, ap₂, subst, _∙_}
-use mathlib.Core.Bool.{Bool, true, false, cond}
+use mathlib.Core.Path.{sym, ap₂, subst, _∙_}
 use native.Mathlib.Omega.{arith}
-use mir.Val.{boolByte}
 use Rattle.parts.specs.Packed.{pack}
-use Rattle.facts.proofs.UseLaws.{tag-small}
+use Rattle.facts.proofs.UseLaws.{tag-is, tag-small}
 use Rattle.facts.proofs.element_word.Statement.{statement}
 use Rattle.facts.proofs.element_word.Tie as tie
-
--- the number of a bool is the tag
-tag-is : (b : Bool) → boolByte b ≡ cond b 1 0
-tag-is true = refl
-tag-is false = refl
 
 value-start-requires : tie.Need-value-start-requires
 value-start-requires c κs = search needs

@@ -11,8 +11,8 @@ returns c = let s = c .before .before .before .before .before in enters-none (no
 token-of-requires : tie.Need-token-of-requires
 token-of-requires c κs = search needs
 
-string-part-requires : tie.Need-string-part-requires
-string-part-requires c κs = search needs
+string-word-requires : tie.Need-string-word-requires
+string-word-requires c κs = search needs
 
 enter-part-requires : tie.Need-enter-part-requires
 enter-part-requires c κs = search needs
@@ -30,13 +30,13 @@ same-length : tie.Need-same-length
 same-length c = search needs
 
 returns-2 : tie.Need-returns-2
-returns-2 c = let s = c .before .before .before .before .before .before .before .before .before .before .before .before .before .before in let t = c .before .before .before .before .before .before .before .before .token-of in rw (c .place .ensures) (enters-full (now (s .args .facts)) (now (s .args .query)) (now (s .args .tokens)) (s .args .w) (now (s .args .places)) (s .args .n) (c .before .before .before .before .before .before .before .before .before .if1 .left) (t .result) (t .ensures) (sym (c .before .enum-told .given .1) ∙ c .before .before .before .before .before .enter-part .ensures .0 ∙ rw (c .before .before .before .before .before .before .string-part .ensures)))
+returns-2 c = let s = c .before .before .before .before .before .before .before .before .before .before .before .before .before .before in let t = c .before .before .before .before .before .before .before .before .token-of in rw (c .place .ensures) (enters-full (now (s .args .facts)) (now (s .args .query)) (now (s .args .tokens)) (s .args .w) (now (s .args .places)) (s .args .n) (c .before .before .before .before .before .before .before .before .before .if1 .left) (t .result) (t .ensures) (sym (c .before .enum-told .given .1) ∙ c .before .before .before .before .before .enter-part .ensures .0 ∙ rw (c .before .before .before .before .before .before .string-word .ensures)))
 
 same-length-2 : tie.Need-same-length-2
 same-length-2 c = search needs
 
 returns-3 : tie.Need-returns-3
-returns-3 c = let s = c .before .before .before .before .before .before .before .before .before .before .before .before .before .before in let t = c .before .before .before .before .before .before .before .before .token-of in enters-one (now (s .args .facts)) (now (s .args .query)) (now (s .args .tokens)) (s .args .w) (now (s .args .places)) (s .args .n) (c .before .before .before .before .before .before .before .before .before .if1 .left) (t .result) (t .ensures) _ _ (c .before .before .before .before .before .enter-part .ensures .1 ∙ rw (c .before .before .before .before .before .before .string-part .ensures)) (sym (c .before .m .given .1) ∙ c .before .before .before .before .before .enter-part .ensures .0 ∙ rw (c .before .before .before .before .before .before .string-part .ensures))
+returns-3 c = let s = c .before .before .before .before .before .before .before .before .before .before .before .before .before .before in let t = c .before .before .before .before .before .before .before .before .token-of in enters-one (now (s .args .facts)) (now (s .args .query)) (now (s .args .tokens)) (s .args .w) (now (s .args .places)) (s .args .n) (c .before .before .before .before .before .before .before .before .before .if1 .left) (t .result) (t .ensures) _ _ (c .before .before .before .before .before .enter-part .ensures .1 ∙ rw (c .before .before .before .before .before .before .string-word .ensures)) (sym (c .before .m .given .1) ∙ c .before .before .before .before .before .enter-part .ensures .0 ∙ rw (c .before .before .before .before .before .before .string-word .ensures))
 
 pub enter-string-spec : {M : Type 1} → statement M
 enter-string-spec =
@@ -44,7 +44,7 @@ enter-string-spec =
     (tie.spec
     returns
     token-of-requires
-    string-part-requires
+    string-word-requires
     enter-part-requires
     enum-told
     place-requires

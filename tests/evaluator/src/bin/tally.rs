@@ -1,8 +1,19 @@
-//! How many generated texts are accepted, how the others are refused, which forms the accepted ones have, what malformed patterns come to,
-//! and where bytes 13 stand: what the comparisons reach.
-use evaluator::generate::{texts, LIMITS};
-use evaluator::{accept, chain, forms};
+//! How many generated texts are accepted, how the others are refused, which forms the accepted ones have, which elements they print and
+//! which relations are read back, what malformed patterns come to, and where bytes 13 stand: what the comparisons reach.
+use evaluator::generate::{texts, Texts, LIMITS};
+use evaluator::read_back::{relations, Evaluator};
+use evaluator::{accept, chain, forms, Accepted};
 use std::collections::BTreeMap;
+
+/// What accepted texts have and what their runs do.
+fn reached(t: &Texts, w: &Accepted) -> Vec<String> {
+    let mut found = forms::of(w);
+    if let Ok(ran) = w.run(t.budget, w.checked().words, t.room) {
+        found.extend(forms::printed(w, &ran));
+    }
+    found.extend(relations(&Evaluator, t, w).unwrap_or_else(|e| vec![format!("read back: {e}")]));
+    found
+}
 
 fn main() {
     let count: u64 = std::env::args().nth(1).map_or(20_000, |n| n.parse().expect("a number of texts"));
@@ -16,7 +27,7 @@ fn main() {
         }
         forms::malformed(&t.facts, &t.query).into_iter().for_each(|how| *tally.entry(how).or_default() += 1);
         if let Ok(w) = &accepted {
-            forms::of(w).into_iter().for_each(|form| *tally.entry(form).or_default() += 1);
+            reached(&t, w).into_iter().for_each(|form| *tally.entry(form).or_default() += 1);
         }
         let store = |needed: usize| (needed as i64 + t.spare).max(0) as usize;
         let what = match accepted.and_then(|w| w.run(t.budget, store(w.checked().words), t.room)) {

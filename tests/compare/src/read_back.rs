@@ -1,0 +1,56 @@
+//! Paper 3 of document 02 through the archive: each relation that a run leaves, printed and read back.
+use crate::calls::{Difference, Met};
+use evaluator::generate::Texts;
+use evaluator::read_back::{relations, Answer, Calculator, Evaluator};
+use evaluator::run::Ending;
+use evaluator::{Accepted, Checked, Refusal};
+use relcalc::c;
+
+struct Archive {
+    /// whether each element is asked for; if not, their texts are the evaluator's
+    elements: bool,
+}
+
+fn accepted(row: u64, place: u64) -> Result<(), Refusal> {
+    if row == 0 { Ok(()) } else { Err((row as u32, place as usize)) }
+}
+
+impl Calculator for Archive {
+    fn answer(&self, facts: &[u8], query: &[u8], budget: u32, room: usize) -> Result<Answer, Refusal> {
+        let k = c::check(facts, query);
+        accepted(k.refusal, k.place)?;
+        let (mut store, mut output) = (vec![0; k.words as usize], vec![0; room]);
+        let ran = c::run(facts, query, budget, &mut store, &mut output);
+        accepted(ran.refusal, ran.place)?;
+        let ending = match ran.ending {
+            0 => Ending::Done,
+            1 => Ending::Spent,
+            _ => Ending::Full,
+        };
+        output.truncate(ran.written as usize);
+        let records = k.records[..k.relations as usize].iter();
+        let records = records.map(|r| [r.text, r.offset, r.length, r.arity, r.first].map(|n| n as usize)).collect();
+        let checked = Checked { universe: k.universe as usize, words: k.words as usize, records };
+        Ok(Answer { checked, ending, steps: ran.steps, output, store })
+    }
+    fn elements(&self, facts: &[u8], query: &[u8], count: usize) -> Vec<Vec<u8>> {
+        if !self.elements {
+            return Evaluator.elements(facts, query, count);
+        }
+        let text = |n| {
+            let part = c::element(facts, query, n);
+            let text = if part.text == 0 { facts } else { query };
+            text[part.offset as usize..][..part.length as usize].to_vec()
+        };
+        (0..count).map(text).collect()
+    }
+}
+
+pub fn read_back_differs(t: &Texts, accepted: &Result<Accepted, Refusal>, met: &mut Met) -> Difference {
+    let Ok(w) = accepted else {
+        return Ok(());
+    };
+    relations(&Evaluator, t, w).map_err(|e| format!("the evaluator: {e}"))?;
+    relations(&Archive { elements: t.elements }, t, w)?.into_iter().for_each(|what| met.add(what));
+    Ok(())
+}
