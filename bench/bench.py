@@ -161,9 +161,10 @@ def table(head, rows):
 
 def compared():
     path = file("facts.rsf", facts(ELEMENTS, PAIRS, HELD))
+    (check, loading), _ = program(os.path.join(to, "relcalc"), path, file("query.rml", "PRINT ENDL;"))
     times, ratios = [], []
     for name, (rml, sql, logic) in QUERIES.items():
-        (check, run), want = program(os.path.join(to, "relcalc"), path, file("query.rml", rml))
+        (_, run), want = program(os.path.join(to, "relcalc"), path, file("query.rml", rml))
         answers = {"SQLite": sqlite(sql), "C": program(os.path.join(to, "bits"), path, name)}
         for system, command, call in (("SWI-Prolog", "swipl", prolog), ("clingo", "clingo", clingo)):
             answers[system] = call(*logic) if shutil.which(command) else (None, want)
@@ -171,19 +172,18 @@ def compared():
             if got != want:
                 sys.exit(f"{name}: {system} and relcalc print different rows")
         database_times, bits, swipl, asp = (answers[system][0] for system in ("SQLite", "C", "SWI-Prolog", "clingo"))
-        own = run - check
+        own = run - loading
         times.append(
             [name, str(len(want))]
-            + [shown([run]), shown([check]), shown([own]), shown(database_times), shown(database_times, 1), shown(swipl), shown(asp), shown(bits)]
+            + [shown([run]), shown([own]), shown(database_times), shown(database_times, 1), shown(swipl), shown(asp), shown(bits)]
         )
         ratios.append(
             [name, ratio(database_times, 0, run), ratio(asp, 0, run), ratio(database_times, 1, own), ratio(swipl, 0, own), f"{run / bits[0]:,.0f}"]
         )
-    table("query,rows,relcalc,of it check,run less check,SQLite with load,SQLite query,SWI-Prolog,clingo,C on bits".split(","), times)
-    (check, run), _ = program(os.path.join(to, "relcalc"), path, file("query.rml", "PRINT ENDL;"))
-    print(f"\nOf each `run less check`, {run - check:,.1f} are for loading the facts: so much has `PRINT ENDL;`, which asks for nothing.\n")
+    table("query,rows,relcalc,less loading,SQLite with load,SQLite query,SWI-Prolog,clingo,C on bits".split(","), times)
+    print(f"\nLoading is {loading:,.1f}: a run of `PRINT ENDL;`, which asks for nothing. Its check takes {check:,.1f}.\n")
     table(
-        "query,SQLite with load / relcalc,clingo / relcalc,SQLite query / run less check,SWI-Prolog / run less check,relcalc / C".split(","),
+        "query,SQLite with load / relcalc,clingo / relcalc,SQLite query / less loading,SWI-Prolog / less loading,relcalc / C".split(","),
         ratios,
     )
 
@@ -221,15 +221,29 @@ def nested():
     )
 
 
+def falling(name, count):
+    """So many different pairs over 64 elements of one byte, the last first: each goes before all that a check has counted of its relation."""
+    letters = [chr(c) for c in range(48, 112)]
+    pairs = [(a, b) for a in letters for b in letters][:count]
+    return [f"{name} {a} {b}\n" for a, b in reversed(pairs)]
+
+
 def reading():
-    """Facts at the length limit, and the same lines with LF and with CR LF. `PRINT ENDL;` asks for nothing, so a run reads them twice."""
+    """Facts at the length limit, the same lines with LF and with CR LF, and as many different pairs as there is room for, in an order that is slow
+    to count. `PRINT ENDL;` asks for nothing; a check and a run both read them twice."""
     query = file("query.rml", "PRINT ENDL;")
-    rows = []
+    texts = []
     for name, end, count in (("LF", "\n", LENGTH // 11), ("LF", "\n", LENGTH // 12), ("CR LF", "\r\n", LENGTH // 12)):
-        text = "".join(f"On e{i % 64:02d} e{i * 7 % 61:02d}{end}" for i in range(count))
+        texts.append((name, [f"On e{i % 64:02d} e{i * 7 % 61:02d}{end}" for i in range(count)]))
+    first, *rest = falling("R", 4096)
+    pairs = [first] + falling("S", LENGTH // 6 - 4096) + rest  # the relation whose fact comes first is counted first
+    texts += [("different pairs, rising", pairs[::-1]), ("different pairs, falling", pairs)]
+    rows = []
+    for name, lines in texts:
+        text = "".join(lines)
         (check, run), _ = program(os.path.join(to, "relcalc"), file("long.rsf", text), query)
-        rows.append([name, f"{count:,}", f"{len(text):,}", f"{check:,.1f}", f"{run:,.1f}"])
-    table(["line ends", "lines", "bytes", "check", "run"], rows)
+        rows.append([name, f"{len(lines):,}", f"{len(text):,}", f"{check:,.1f}", f"{run:,.1f}"])
+    table(["facts", "lines", "bytes", "check", "run"], rows)
 
 
 def picking():

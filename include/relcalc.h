@@ -75,9 +75,10 @@ enum { RELCALC_IN_FACTS = 0, RELCALC_IN_QUERY = 1 };
 /* How a run ended. */
 enum { RELCALC_DONE = 0, RELCALC_SPENT = 1, RELCALC_FULL = 2 };
 
-/* A relation: the first place of its name, its arity, and its first word in the store. */
+/* A relation: the first place of its name, its arity, its first word in the store, and the number of its tuples as loaded: different
+   ones, so facts that repeat a tuple, quoted or bare, count once; 0 if only the query names it. */
 typedef struct {
-    uint64_t text, offset, length, arity, first;
+    uint64_t text, offset, length, arity, first, count;
 } relcalc_record;
 
 typedef struct {
@@ -98,6 +99,7 @@ typedef struct {
     uint64_t ending;  /* RELCALC_DONE, RELCALC_SPENT or RELCALC_FULL */
     uint64_t steps;   /* completed */
     uint64_t written; /* bytes of output */
+    uint64_t counts[RELCALC_RELATIONS]; /* tuples of each relation at the run's end */
 } relcalc_ran;
 
 /* Runs the query over the facts. One step each: an assignment, a PRINT, an IF test, a WHILE test, a FOR's set, each element a FOR takes.
@@ -108,11 +110,13 @@ typedef struct {
    words, 3 takes U * U; tuple (a) is bit a, (a,b) bit b of word a, (a,b,c) bit c of word U * a + b, the empty tuple bit 0, counted from
    the relation's first word; other bits are zero. The words from there to those needed are zero, later ones unchanged. The output holds
    the bytes written, later ones unchanged.
+   However the run ends, counts[i] is then the number of tuples in relation i's table, in the order of relcalc_check's records, unused
+   ones zero: nobody need count bits. With a budget of 0 they are the counts of those records.
    A printed tuple is a line: its label, if it has one, and its elements, with one space between. An element is in quotes if a fact
    quoted it, or if it is empty or holds a space or tab; a label, string or loop variable never is. So PRINT ["R"] R(x,y); with a
    different attribute for each column gives lines of facts: read as facts, if they are at most 32,768 bytes, they have R's tuples, text
    for text. If R is empty there is no line.
-   Refused, 1 to 14 or 18: ending, steps and written are 0; store and output are unchanged.
+   Refused, 1 to 14 or 18: all else is 0; store and output are unchanged.
    Steps are not time: one step may take long where quantifiers nest (docs/PERFORMANCE.md). */
 relcalc_ran relcalc_run(const uint8_t *facts, size_t facts_len, const uint8_t *query, size_t query_len, uint32_t budget,
                         uint64_t *store, size_t store_len, uint8_t *output, size_t output_len);

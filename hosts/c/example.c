@@ -1,4 +1,4 @@
-/* The worked example, curves picked by a pattern, a name with blanks, then a refusal. */
+/* The worked example, curves picked by a pattern, a name with blanks, each with the sizes of its relations, then a refusal. */
 #include "relcalc.h"
 
 #include <stdio.h>
@@ -7,6 +7,18 @@
 static const char facts[] = "On C10 C5\nOn C5 C2\nOn B7 C10\nHeld B7\n";
 static uint64_t store[RELCALC_STORE_WORDS];
 static uint8_t output[32768];
+
+/* how many tuples each relation has at a run's end */
+static void print_sizes(const char *query, const uint64_t *counts)
+{
+    relcalc_checked checked = relcalc_check((const uint8_t *)facts, strlen(facts), (const uint8_t *)query, strlen(query));
+    for (uint64_t i = 0; i < checked.relations; i++) {
+        const relcalc_record *r = &checked.records[i];
+        const char *name = (r->text == RELCALC_IN_FACTS ? facts : query) + r->offset;
+        printf("%s%.*s %llu", i ? ", " : "sizes: ", (int)r->length, name, (unsigned long long)counts[i]);
+    }
+    printf("\n");
+}
 
 static int run(const char *query)
 {
@@ -19,6 +31,7 @@ static int run(const char *query)
     static const char *const endings[] = {"done", "spent", "full"};
     fwrite(output, 1, ran.written, stdout);
     printf("%s %llu\n", endings[ran.ending], (unsigned long long)ran.steps);
+    print_sizes(query, ran.counts);
     return 0;
 }
 

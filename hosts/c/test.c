@@ -1,5 +1,5 @@
-/* The calls from C: the worked example, facts saved with CR LF, patterns, printed quotes, refusals, null and equal texts, the largest
-   sizes, a small stack. */
+/* The calls from C: the worked example, facts saved with CR LF, patterns, printed quotes, counts of tuples, refusals, null and equal
+   texts, the largest sizes, a small stack. */
 #define _POSIX_C_SOURCE 200809L
 #include "lent.h"
 #include "relcalc.h"
@@ -7,6 +7,10 @@
 #include <pthread.h>
 #include <stdio.h>
 #include <string.h>
+
+_Static_assert(sizeof(relcalc_record) == 6 * 8 && offsetof(relcalc_record, count) == 5 * 8, "a record's parts");
+_Static_assert(sizeof(relcalc_checked) == (5 + 6 * 16) * 8 && offsetof(relcalc_checked, records) == 5 * 8, "a check's parts");
+_Static_assert(sizeof(relcalc_ran) == (5 + 16) * 8 && offsetof(relcalc_ran, counts) == 5 * 8, "a run's parts");
 
 static const char F[] = "On C10 C5\nOn C5 C2\nOn B7 C10\nHeld B7\n";
 static const char F_cr_lf[] = "On C10 C5\r\nOn C5 C2\r\nOn B7 C10\r\nHeld B7\r\n";
@@ -49,13 +53,29 @@ static relcalc_chained chain(const char *f, const char *name, const char *a, con
 
 static int refused(relcalc_ran r, uint64_t refusal, uint64_t place)
 {
-    return r.refusal == refusal && r.place == place && !r.ending && !r.steps && !r.written;
+    return !memcmp(&r, &(relcalc_ran){.refusal = refusal, .place = place}, sizeof r);
+}
+
+static int refused_check(relcalc_checked c, uint64_t refusal, uint64_t place)
+{
+    return !memcmp(&c, &(relcalc_checked){.refusal = refusal, .place = place}, sizeof c);
 }
 
 static int ended(relcalc_ran r, uint64_t ending, uint64_t steps, uint64_t written)
 {
     return !r.refusal && !r.place && r.ending == ending && r.steps == steps && r.written == written;
 }
+
+/* the counts of a check's records, or of a run: all 16, those that are not given 0 */
+static int loaded(relcalc_checked c, const uint64_t *counts)
+{
+    int same = !c.refusal;
+    for (int i = 0; i < RELCALC_RELATIONS; i++)
+        same &= c.records[i].count == counts[i];
+    return same;
+}
+#define LOADED(c, ...) loaded(c, (const uint64_t[RELCALC_RELATIONS]){__VA_ARGS__})
+#define COUNTED(r, ...) (!memcmp((r).counts, (const uint64_t[RELCALC_RELATIONS]){__VA_ARGS__}, sizeof (r).counts))
 
 static int is_part(relcalc_part p, uint64_t text, uint64_t offset, uint64_t length)
 {
@@ -66,10 +86,10 @@ static void worked_example(void)
 {
     relcalc_checked c = check(F, Q);
     EXPECT(!c.refusal && !c.place && c.universe == 4 && c.words == 77 && c.relations == 3);
-    EXPECT(!memcmp(&c.records[0], &(relcalc_record){0, 0, 2, 2, 0}, sizeof c.records[0]));
-    EXPECT(!memcmp(&c.records[1], &(relcalc_record){0, 29, 4, 1, 4}, sizeof c.records[0]));
-    EXPECT(!memcmp(&c.records[2], &(relcalc_record){1, 0, 3, 2, 5}, sizeof c.records[0]));
-    EXPECT(!memcmp(&c.records[3], &(relcalc_record){0, 0, 0, 0, 0}, sizeof c.records[0]));
+    EXPECT(!memcmp(&c.records[0], &(relcalc_record){0, 0, 2, 2, 0, 3}, sizeof c.records[0]));
+    EXPECT(!memcmp(&c.records[1], &(relcalc_record){0, 29, 4, 1, 4, 1}, sizeof c.records[0]));
+    EXPECT(!memcmp(&c.records[2], &(relcalc_record){1, 0, 3, 2, 5, 0}, sizeof c.records[0]));
+    EXPECT(!memcmp(&c.records[3], &(relcalc_record){0, 0, 0, 0, 0, 0}, sizeof c.records[0]));
     static const uint64_t tables[] = {2, 8, 0, 4, 1, 14, 12, 0, 4};
     store[77] = 7, output[63] = 7;
     EXPECT(ended(run(F, Q, 1000000, store, 78, output, 64), RELCALC_DONE, 2, 63));
@@ -91,9 +111,9 @@ static void facts_with_cr_lf(void)
 {
     relcalc_checked c = check(F_cr_lf, Q);
     EXPECT(!c.refusal && !c.place && c.universe == 4 && c.words == 77 && c.relations == 3);
-    EXPECT(!memcmp(&c.records[0], &(relcalc_record){0, 0, 2, 2, 0}, sizeof c.records[0]));
-    EXPECT(!memcmp(&c.records[1], &(relcalc_record){0, 32, 4, 1, 4}, sizeof c.records[0]));
-    EXPECT(!memcmp(&c.records[2], &(relcalc_record){1, 0, 3, 2, 5}, sizeof c.records[0]));
+    EXPECT(!memcmp(&c.records[0], &(relcalc_record){0, 0, 2, 2, 0, 3}, sizeof c.records[0]));
+    EXPECT(!memcmp(&c.records[1], &(relcalc_record){0, 32, 4, 1, 4, 1}, sizeof c.records[0]));
+    EXPECT(!memcmp(&c.records[2], &(relcalc_record){1, 0, 3, 2, 5, 0}, sizeof c.records[0]));
     static const uint64_t tables[] = {2, 8, 0, 4, 1, 14, 12, 0, 4};
     memset(store, 7, sizeof store), memset(output, 7, sizeof output);
     EXPECT(ended(run(F_cr_lf, Q, 1000000, store, 77, output, 64), RELCALC_DONE, 2, 63));
@@ -203,6 +223,61 @@ static void pages_read_back(void)
     EXPECT(store[0] == 7 && !memcmp(output, held, strlen(held)));
 }
 
+static void counts_as_loaded(void)
+{
+    EXPECT(LOADED(check(F, Q), 3, 1, 0));
+    EXPECT(LOADED(check(F_cr_lf, Q), 3, 1, 0));
+    EXPECT(LOADED(check("On C10 C5\nOn C5 C2\nOn C10 C5\nHeld B7\nHeld B7\n", Q), 2, 1, 0));
+    EXPECT(LOADED(check("Held \"B7\"\nHeld B7\nOn B7 \"C2\"\nOn \"B7\" C2\nHeld \"B7\"\n", Q), 1, 1, 0));
+    EXPECT(LOADED(check("T a b c\nT \"a\" b c\nT a\tb  c \nT c b a\n", "PRINT ENDL;"), 2));
+    EXPECT(LOADED(check("P\nP \nP", "PRINT ENDL;"), 1));
+    EXPECT(LOADED(check("Held \"\"\nHeld \" \"\nHeld  \"\"\n# Held a\n.\nHeld b\n", "PRINT ENDL;"), 2));
+    EXPECT(LOADED(check(NULL, "IF FALSE() { R(\"a\"); } PRINT P();"), 0, 0));
+    EXPECT(LOADED(check(NULL, "PRINT ENDL;"), 0));
+    static char lines[32769];
+    for (int i = 0; i < 32768; i += 2)
+        lines[i] = 'P', lines[i + 1] = '\n';
+    EXPECT(LOADED(check(lines, "PRINT ENDL;"), 1));
+}
+
+/* a run whose store and output hold something else before it */
+static relcalc_ran over(const char *f, const char *q, uint32_t budget, size_t room)
+{
+    memset(store, 7, sizeof store), memset(output, 7, sizeof output);
+    return run(f, q, budget, store, RELCALC_STORE_WORDS, output, room);
+}
+
+static void counts_at_the_end(void)
+{
+    EXPECT(COUNTED(over(F, Q, 9, 63), 3, 1, 6) && COUNTED(over(F, Q, 1, 63), 3, 1, 6) && COUNTED(over(F, Q, 0, 63), 3, 1, 0));
+    EXPECT(COUNTED(over(F, Q, 2, 62), 3, 1, 6));
+    EXPECT(COUNTED(over("Held \"B7\"\nHeld B7\n", "PRINT ENDL;", 9, 1), 1));
+    EXPECT(COUNTED(over(F, "Held(\"C2\"); On(\"B7\",x) := FALSE(x);", 9, 0), 2, 2));
+    EXPECT(COUNTED(over(F, "On(\"C2\",\"Z\"); Held(x) := Held(x);", 9, 0), 4, 1));
+    EXPECT(COUNTED(over(F, "On(x,y) := FALSE(x,y); T(x,y,z); P();", 9, 0), 0, 1, 64, 1));
+    EXPECT(COUNTED(over(NULL, "P(); P() := FALSE(); P();", 2, 0), 0) && COUNTED(over(NULL, "P(); P() := FALSE(); P();", 3, 0), 1));
+    static const char shrinks[] = "FOR v IN On(x,_) { On(x,y) := On(x,y) & x != v; Gone(x) := Gone(x) | x = v; PRINT v; }";
+    static const uint64_t on[] = {3, 3, 3, 2, 2, 2, 2, 1, 1, 1, 1, 0, 0, 0}, gone[] = {0, 0, 0, 0, 1, 1, 1, 1, 2, 2, 2, 2, 3, 3};
+    for (uint32_t steps = 0; steps < 14; steps++)
+        EXPECT(COUNTED(over(F, shrinks, steps, 99), on[steps], 1, gone[steps]));
+    /* B7, C10 and C5 are printed: 2, 3 and 2 bytes */
+    EXPECT(COUNTED(over(F, shrinks, 99, 1), 2, 1, 1));
+    EXPECT(COUNTED(over(F, shrinks, 99, 4), 1, 1, 2));
+    EXPECT(COUNTED(over(F, shrinks, 99, 6), 0, 1, 3));
+    static const char turns[] = "WHILE TRUE() { Held(x) := !Held(x); }";
+    EXPECT(COUNTED(over(F, turns, 4, 0), 3, 1) && COUNTED(over(F, turns, 6, 0), 3, 3));
+}
+
+static void no_counts_of_refusals(void)
+{
+    EXPECT(refused_check(check(F, "PRINT On(x,y)"), RELCALC_NO_PROGRAM, 13));
+    EXPECT(refused_check(check("Held B7\nHeld B7 C2\n", Q), RELCALC_ARITY_WRONG, 16));
+    EXPECT(refused_check(check(F, "Dep(x) := TC(On(x,y));"), RELCALC_FREE_ATTRIBUTES, 0));
+    EXPECT(refused(over(F, "PRINT On(x,y)", 9, 9), RELCALC_NO_PROGRAM, 13));
+    EXPECT(refused(over("Held B7\nHeld B7 C2\n", Q, 9, 9), RELCALC_ARITY_WRONG, 16));
+    EXPECT(refused(run(F, Q, 9, store, 76, output, 64), RELCALC_STORE_SHORT, 77) && LOADED(check(F, Q), 3, 1, 0));
+}
+
 static void refused_patterns(void)
 {
     static const char *const wrong[] = {"", "a|", "()", "*a", "^*", "a**", "a{3}", "(a", "a)", "[]", "[b-a]", "[[:alpha:]]", "\\"};
@@ -258,7 +333,11 @@ static void largest_sizes(void)
     memset(query + sprintf(query, "R1(x,y,z) := R0(x,y,z); PRINT EX(z, R1(x,y,z));"), ' ', 16384 - 47);
     relcalc_checked c = check(facts, query);
     EXPECT(!c.refusal && c.universe == 64 && c.words == RELCALC_STORE_WORDS && c.relations == 16);
-    EXPECT(ended(run(facts, query, UINT32_MAX, store, RELCALC_STORE_WORDS, output, sizeof output), RELCALC_DONE, 2, 512));
+    EXPECT(LOADED(c, 64, 1, 1, 1, 1, 1, 1, 1, 1, 1, 1, 1, 1, 1, 1, 1));
+    relcalc_ran r = run(facts, query, UINT32_MAX, store, RELCALC_STORE_WORDS, output, sizeof output);
+    EXPECT(ended(r, RELCALC_DONE, 2, 512) && COUNTED(r, 64, 64, 1, 1, 1, 1, 1, 1, 1, 1, 1, 1, 1, 1, 1, 1));
+    r = run(facts, "R0(x,y,z) := FALSE(x,y,z); R15(x,y,z);", 9, store, RELCALC_STORE_WORDS, output, 0);
+    EXPECT(COUNTED(r, 0, 1, 1, 1, 1, 1, 1, 1, 1, 1, 1, 1, 1, 1, 1, 262144));
     facts[32768] = '\n';
     EXPECT(check(facts, query).refusal == RELCALC_FACTS_TOO_LONG && check(facts, query).place == 32768);
     facts[32768] = 0, query[16384] = ' ';
@@ -269,11 +348,12 @@ static void largest_sizes(void)
     EXPECT(chain(ring, "On", "e05", "e05", numbers, sizeof numbers).count == 65);
 }
 
-/* Runs a query on a thread whose stack is filled with a pattern, and answers how much of it was used. */
+/* Checks and runs a query on a thread whose stack is filled with a pattern, and answers how much of it was used. */
 static _Alignas(4096) uint8_t stack[1 << 20];
 
 static void *run_deep(void *query)
 {
+    EXPECT(!check(F, query).refusal);
     EXPECT(ended(run(F, query, 9, store, RELCALC_STORE_WORDS, output, sizeof output), RELCALC_DONE, 1, 0));
     return NULL;
 }
@@ -337,6 +417,9 @@ int main(void)
     refused_patterns();
     printed_quotes();
     pages_read_back();
+    counts_as_loaded();
+    counts_at_the_end();
+    no_counts_of_refusals();
     refusals();
     empty_and_equal();
     largest_sizes();

@@ -105,9 +105,12 @@ class Part:
 
 @dataclass(frozen=True)
 class Relation:
+    """A relation; `count` is the number of its tuples as loaded."""
+
     name: Part
     arity: int
     first: int
+    count: int
 
 
 @dataclass(frozen=True)
@@ -119,10 +122,13 @@ class Checked:
 
 @dataclass(frozen=True)
 class Ran:
+    """A run; `counts` are the numbers of tuples of 16 relations at its end, in the order of `check`, 0 where there is none."""
+
     ending: Ending
     steps: int
     output: bytes
     store: list
+    counts: list
 
 
 @dataclass(frozen=True)
@@ -170,7 +176,7 @@ def _words(*names):
 
 
 class _Record(ctypes.Structure):
-    _fields_ = _words("text", "offset", "length", "arity", "first")
+    _fields_ = _words("text", "offset", "length", "arity", "first", "count")
 
 
 class _Checked(ctypes.Structure):
@@ -178,7 +184,7 @@ class _Checked(ctypes.Structure):
 
 
 class _Ran(ctypes.Structure):
-    _fields_ = _words("refusal", "place", "ending", "steps", "written")
+    _fields_ = _words("refusal", "place", "ending", "steps", "written") + [("counts", ctypes.c_uint64 * 16)]
 
 
 class _Part(ctypes.Structure):
@@ -234,7 +240,7 @@ class Relcalc:
         """Whether a run would accept the texts, and what it needs."""
         a = self._check(*_lent(_bytes(facts), _bytes(query)))
         _accept(a)
-        relations = [Relation(Part(Text(r.text), r.offset, r.length), r.arity, r.first) for r in a.records[: a.relations]]
+        relations = [Relation(Part(Text(r.text), r.offset, r.length), r.arity, r.first, r.count) for r in a.records[: a.relations]]
         return Checked(a.universe, a.words, relations)
 
     def run(self, facts, query, budget=1_000_000, words=STORE_WORDS, room=32768):
@@ -248,7 +254,7 @@ class Relcalc:
         store, output = _room(ctypes.c_uint64, words), _room(ctypes.c_uint8, room)
         a = self._run(*_lent(_bytes(facts), _bytes(query)), budget, store, words, output, room)
         _accept(a)
-        return Ran(Ending(a.ending), a.steps, bytes(output[: a.written]), store[:words])
+        return Ran(Ending(a.ending), a.steps, bytes(output[: a.written]), store[:words], list(a.counts))
 
     def element(self, facts, query, n):
         """The part that is the text of element n; None where there is none, or the texts are refused."""

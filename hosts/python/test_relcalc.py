@@ -1,11 +1,13 @@
-"""The wrapper over the shared object: the worked example, facts saved with CR LF, patterns, printed quotes, refusals, empty and equal
-texts, the largest sizes."""
+"""The wrapper over the shared object: the worked example, facts saved with CR LF, patterns, printed quotes, counts of tuples, refusals,
+empty and equal texts, the largest sizes."""
+import ctypes
 import itertools
 import os
 import re
 import sys
 import unittest
 
+import relcalc
 from relcalc import CHAIN_BYTES, STORE_WORDS, Ending, Part, Refusal, Refused, Relcalc, Text
 from relcalc_pattern import Fault, first_fault
 
@@ -90,6 +92,11 @@ def picking(pattern):
     return b'PRINT @"' + pattern + b'"(x);'
 
 
+def sixteen(*counts):
+    """Counts of the first relations; there are no others."""
+    return [*counts] + [0] * (16 - len(counts))
+
+
 def guide_rows(width):
     """The cells of the guide's rows that have so many, and the words in code of each."""
     with open(GUIDE, encoding="utf-8") as page:
@@ -112,11 +119,12 @@ class Host(unittest.TestCase):
     def test_worked_example(self):
         checked = rc.check(FACTS, QUERY)
         self.assertEqual((checked.universe, checked.words), (4, 77))
-        relations = [(r.name.of(FACTS, QUERY), r.arity, r.first) for r in checked.relations]
-        self.assertEqual(relations, [(b"On", 2, 0), (b"Held", 1, 4), (b"Dep", 2, 5)])
+        relations = [(r.name.of(FACTS, QUERY), r.arity, r.first, r.count) for r in checked.relations]
+        self.assertEqual(relations, [(b"On", 2, 0, 3), (b"Held", 1, 4, 1), (b"Dep", 2, 5, 0)])
         ran = rc.run(FACTS, QUERY, words=77, room=100)
         self.assertEqual((ran.ending, ran.steps, ran.output), (Ending.DONE, 2, PAGE))
         self.assertEqual(ran.store, [2, 8, 0, 4, 1, 14, 12, 0, 4] + [0] * 68)
+        self.assertEqual(ran.counts, sixteen(3, 1, 6))
 
     def test_spent_and_full(self):
         ran = rc.run(FACTS, QUERY, budget=1, room=63)
@@ -218,6 +226,53 @@ class Host(unittest.TestCase):
         self.assertEqual((ran.store[0], ran.output), (0b111, held))
         self.assertEqual(rc.run(b"", b'P(); PRINT ["P"] P();').output, b"P\n")
         self.assertEqual(rc.run(b"P\n", query).output, b"P\n")
+
+    def test_counts_as_loaded(self):
+        dep = b"Dep(x,y) := TC(On(x,y));"
+        for facts, query, counts in [
+            (b"On C10 C5\nOn C5 C2\nOn C10 C5\nHeld B7\nHeld B7\n", dep, [2, 1, 0]),
+            (b'Held "B7"\nHeld B7\nOn B7 "C2"\r\nOn "B7" C2\nHeld "B7"\n', dep, [1, 1, 0]),
+            (b'T a b c\nT "a" b c\nT a\tb  c \nT c b a\n', b"PRINT ENDL;", [2]),
+            (b"P\nP \nP", b"PRINT ENDL;", [1]),
+            (b'Held ""\nHeld " "\nHeld  ""\n# Held a\n.\nHeld b\n', b"PRINT ENDL;", [2]),
+            (None, b'IF FALSE() { R("a"); } PRINT P();', [0, 0]),
+            (b"P\n" * 16384, b"PRINT ENDL;", [1]),
+        ]:
+            self.assertEqual([r.count for r in rc.check(facts, query).relations], counts, query)
+            self.assertEqual(rc.run(facts, query, budget=0).counts, sixteen(*counts), query)
+
+    def test_counts_at_the_end(self):
+        for budget, room, dep in [(0, 63, 0), (1, 63, 6), (2, 62, 6), (2, 63, 6)]:
+            self.assertEqual(rc.run(FACTS, QUERY, budget=budget, room=room).counts, sixteen(3, 1, dep), (budget, room))
+        for query, counts in [
+            (b'Held("C2"); On("B7",x) := FALSE(x);', [2, 2]),
+            (b'On("C2","Z"); Held(x) := Held(x);', [4, 1]),
+            (b"On(x,y) := FALSE(x,y); T(x,y,z); P();", [0, 1, 64, 1]),
+        ]:
+            self.assertEqual(rc.run(FACTS, query).counts, sixteen(*counts), query)
+        shrinks = b"FOR v IN On(x,_) { On(x,y) := On(x,y) & x != v; Gone(x) := Gone(x) | x = v; PRINT v; }"
+        for budget, (on, gone) in enumerate(zip([3, 3, 3, 2, 2, 2, 2, 1, 1, 1, 1, 0, 0, 0], [0, 0, 0, 0, 1, 1, 1, 1, 2, 2, 2, 2, 3, 3])):
+            self.assertEqual(rc.run(FACTS, shrinks, budget=budget).counts, sixteen(on, 1, gone), budget)
+        # B7, C10 and C5 are printed: 2, 3 and 2 bytes
+        for room, counts in [(1, [2, 1, 1]), (4, [1, 1, 2]), (6, [0, 1, 3])]:
+            self.assertEqual(rc.run(FACTS, shrinks, room=room).counts, sixteen(*counts), room)
+        for budget, held in [(4, 1), (6, 3)]:
+            self.assertEqual(rc.run(FACTS, b"WHILE TRUE() { Held(x) := !Held(x); }", budget=budget).counts, sixteen(3, held), budget)
+
+    def test_no_counts_of_refusals(self):
+        """Refused answers and unused records are all zero, which the classes do not show."""
+        store, output = (ctypes.c_uint64 * 76)(), (ctypes.c_uint8 * 9)()
+        for query, refusal, place in [(QUERY, 14, 77), (b"PRINT On(x,y)", 10, 13), (b"Dep(x) := TC(On(x,y));", 12, 0)]:
+            texts = (FACTS, len(FACTS), query, len(query))
+            self.assertEqual(bytes(rc._run(*texts, 9, store, 76, output, 9)), bytes(relcalc._Ran(refusal=refusal, place=place)))
+            if refusal != 14:
+                self.assertEqual(bytes(rc._check(*texts)), bytes(relcalc._Checked(refusal=refusal, place=place)))
+        unused = rc._check(FACTS, len(FACTS), QUERY, len(QUERY)).records[3:]
+        self.assertEqual([bytes(r) for r in unused], [bytes(6 * 8)] * 13)
+
+    def test_sizes_of_the_structs(self):
+        sizes = [ctypes.sizeof(s) for s in (relcalc._Record, relcalc._Checked, relcalc._Ran)]
+        self.assertEqual(sizes, [6 * 8, (5 + 6 * 16) * 8, (5 + 16) * 8])
 
     def test_refused_patterns(self):
         for pattern, _, _ in NO_PATTERNS:
@@ -358,8 +413,11 @@ class Host(unittest.TestCase):
         query = b"R1(x,y,z) := R0(x,y,z); PRINT EX(z, R1(x,y,z));".ljust(16384)
         checked = rc.check(facts, query)
         self.assertEqual((checked.universe, checked.words, len(checked.relations)), (64, STORE_WORDS, 16))
+        self.assertEqual([r.count for r in checked.relations], [64] + [1] * 15)
         ran = rc.run(facts, query, budget=2**32 - 1)
-        self.assertEqual((ran.ending, ran.steps, len(ran.output)), (Ending.DONE, 2, 64 * 8))
+        self.assertEqual((ran.ending, ran.steps, len(ran.output), ran.counts), (Ending.DONE, 2, 64 * 8, [64, 64] + [1] * 14))
+        ran = rc.run(facts, b"R0(x,y,z) := FALSE(x,y,z); R15(x,y,z);")
+        self.assertEqual(ran.counts, [0] + [1] * 14 + [262144])
         self.assertEqual(rc.element(facts, query, 63).of(facts, query), b"e63")
         self.refused(Refusal.FACTS_TOO_LONG, 32768, rc.check, facts + b"\n", query)
         self.refused(Refusal.QUERY_TOO_LONG, 16384, rc.check, facts, query + b" ")

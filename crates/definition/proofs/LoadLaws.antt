@@ -42,7 +42,7 @@ tuples-fit u (suc n) =
     every-gather (λ a. map (λ t. a ∷ t) (tuples u n))
     (every-weaken (λ a h. every-map (λ t. a ∷ t) (every-weaken (λ t f. record { size = ap suc (f .size); below = every-one h (f .below) }) (tuples-fit u n))) (numbers-below u 0 u (omega arith)))
 
-all-below : {u : ℕ} {t : Tuple} → Every (λ a. a < u) t → Below u t
+pub all-below : {u : ℕ} {t : Tuple} → Every (λ a. a < u) t → Below u t
 all-below every-none = tt
 all-below (every-one h hs) = (h, all-below hs)
 
@@ -182,19 +182,22 @@ module _ (limits : Limits) (facts query : Text) (w : Accepted) (accepted : accep
   unfolding loaded
   loaded-says r vs i = stated w r vs (w .relations) i
 
+  -- a fact's elements, by their numbers
+  pub fact-tuple : {g : Fact} → In g (w .facts) → (t : Tuple) × Every (λ a. a < elements w) t × (map (element-text w) t ≡ values (g .elements))
+  fact-tuple i =
+      numbers-at (w .universe)
+      (fact-members w (λ x t. subst T (sym (universe limits facts query w accepted .members x)) (or-right (has x (left-strings (w .program))) (in-facts x (w .facts)) t)) i)
+
   pub says-loaded : (r : Text) (vs : List Text) → T (has-fact r vs (w .facts)) → In vs (tuples-of w (loaded w) r)
   unfolding loaded has-fact
   says-loaded r vs s =
       let (g, i, h) = some-in (says r vs) (w .facts) s in
       let name : g .name ≡ r = sym (same-eq r (g .name) (and-left (same r (g .name)) (same-values vs (g .elements)) h)) in
       let is : vs ≡ values (g .elements) = same-values-eq vs (g .elements) (and-right (same r (g .name)) (same-values vs (g .elements)) h) in
-      let (t, below, texts) = numbers-at (w .universe) (fact-members w of-facts i) in
+      let (t, below, texts) = fact-tuple i in
       let size : length (g .elements) ≡ length t = sym (length-map (g .elements) (λ e. e .value)) ∙ ap length (sym texts) ∙ length-map t (element-text w) in
       let fits = every-in (accepted-named limits facts query w accepted .fitted) i ∙ ap (λ (m : ℕ). m ∷ []) size in
       subst (λ (x : Text). In vs (tuples-of w (loaded w) x)) name (subst (λ (xs : List Text). In xs (tuples-of w (loaded w) (g .name))) (texts ∙ sym is) (loads w g i t below texts (w .relations) fits))
-    where
-      of-facts : (x : Text) → T (in-facts x (w .facts)) → T (member x (w .universe))
-      of-facts x t = subst T (sym (universe limits facts query w accepted .members x)) (or-right (has x (left-strings (w .program))) (in-facts x (w .facts)) t)
 
 -- a list that holds nothing
 none-in : {A : Type 0} (xs : List A) → ((x : A) → In x xs → ⊥) → xs ≡ []

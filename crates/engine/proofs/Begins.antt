@@ -1,25 +1,31 @@
 -- What a run of accepted texts begins with.
 use Prim.Native.Nat.{ℕ, _<_, _≤_}
-use mathlib.Core.Path.{_≡_, refl, sym, subst, _∙_}
-use mathlib.Core.List.{List, []}
+use mathlib.Core.Path.{_≡_, refl, sym, ap, ap₂, subst, _∙_}
+use mathlib.Core.List.{List, [], _∷_}
 use native.Mathlib.Omega.{arith}
-use lib.ListN.{length, take, replicate, length-replicate}
+use lib.ListN.{length, take, replicate, length-map, length-replicate}
 use lib.Seq.{getD-take, length-take-le}
 use Rattle.definition.specs.Text.{Text}
 use Rattle.definition.specs.Limits.{document-01}
 use Rattle.definition.specs.Answer.{refused, number, place}
-use Rattle.definition.specs.Accept.{Accepted, accept, elements}
+use Rattle.definition.specs.Facts.{Relation}
+use Rattle.definition.specs.Accept.{Accepted, accept, elements, words-needed}
 use Rattle.definition.specs.Assignment.{loaded}
 use Rattle.definition.specs.Claim.{store-image}
-use Rattle.definition.specs.Calls.{RunMeets}
+use Rattle.definition.specs.Calls.{RunMeets, CountsMeet}
+use Rattle.definition.specs.declared.Ran.{Ran}
 use Rattle.definition.specs.declared.Ran.the-variants.{Refused}
+use Rattle.definition.specs.declared.RunAnswer.{RunAnswer}
 use Rattle.definition.specs.declared.Refusal.{Refusal}
 use Rattle.definition.specs.declared.Refusal.the-variants.{StoreShort}
-use Rattle.definition.proofs.CallLaws.{run-short}
+use Rattle.definition.proofs.CallLaws.{run-short, run-refused, counts-short, counts-refused}
+use Rattle.facts.specs.Words.{relation-of, relations-of}
 use Rattle.universe.proofs.Filling.{filled-shows, filled-count}
 use Rattle.code.specs.Program.{Code}
 use Rattle.coding.specs.Pass.{Depths, Made, Passed}
 use Rattle.coded.proofs.Coded.{Lowering, coded, code-length}
+use Rattle.counts.specs.Counting.{counted}
+use Rattle.counts.proofs.All.{Tagged, no-tags, tagged, counted-loaded}
 use Rattle.loading.specs.Given.{Ready}
 use Rattle.layout.specs.Sizes.{LaidOut}
 use Rattle.acceptance.specs.declared.Sizes.{Sizes}
@@ -28,7 +34,7 @@ use Rattle.acceptance.specs.declared.Texts.the-variants as Texts
 use Rattle.acceptance.specs.Reading.{Reading, Sized}
 use Rattle.chain.proofs.Asking.{read-short}
 use Rattle.engine.specs.Given.{Given, Fits, Prepared, prepared, refuses}
-use Rattle.engine.specs.Begun.{Begun, no-depths}
+use Rattle.engine.specs.Begun.{Begun, NotRun, Answered, no-depths}
 
 -- the first words of a longer array are lowered too
 made-short : {facts query : Text} {places tokens ids known words low : List ℕ} {u : ℕ} {depths : List ℕ} {s k : ℕ} (n : ℕ) → k < n
@@ -50,7 +56,7 @@ pub passed-short : {facts query : Text} {places tokens ids known words low : Lis
 passed-short {words = words} p = record { made = λ k h s f. made-short (length words) h (p .made k h s f) }
 
 module _ (facts query : Text) (tokens words ids known relations places : List ℕ) (w : Accepted) (r : Reading facts query tokens words ids known relations places w) where
-  pub size-is : elements w ≡ length places
+  size-is : elements w ≡ length places
   size-is = filled-count facts query tokens words places w (r .filled)
 
   -- what the passes leave, with the lowered words
@@ -78,10 +84,8 @@ module _ (facts query : Text) (tokens words ids known relations places : List �
     given-so =
         let c = coded facts query w tokens ids known relations words places front (length relations) (r .kinds) (r .ts) no-depths lowering in
         record {
-          accepted = r .accepted;
+          known = record { accepted = r .accepted; relations = r .relations-are; universe = sym (r .filled .universe) };
           size = size-is;
-          relations-are = r .relations-are;
-          universe-is = sym (r .filled .universe);
           shows = filled-shows facts query tokens words places w (r .filled) (r .ts) (r .parsed);
           code =
               subst (Code w query front [] (w .program) 0)
@@ -131,25 +135,49 @@ module _ (facts query : Text) (relations places low : List ℕ) where
   not-held (prepared {s = s} w z) q e = let f : _≡_ {A = ℕ} 0 1 = cc in absurd (omega arith)
   not-held (refuses {q = q′} h) q e = let same : q′ ≡ q = cc in subst (λ (v : Refusal). accept document-01 facts query ≡ refused (number v) (place v)) same h
 
-  -- the universe is small, and its size that of the array's part
-  pub few-held : (s : Sizes) (w : Accepted) → Fits facts query relations places low s w → s .elements ≤ 64
-  few-held s w z = omega (arith, length-take-le (s .elements) places (z .places-inside), z .given .few-places)
+-- a run that is refused
+not-answered : (facts query : Text) (budget : ℕ) (store : List ℕ) (buffer : Text) (q : Refusal) (r : RunAnswer) → NotRun q r → RunMeets document-01 facts query budget store buffer (Refused q) store buffer
+    → CountsMeet document-01 facts query store (replicate 16 0) store → Answered facts query budget store buffer r store buffer
+not-answered facts query budget store buffer q r n m c = (
+  subst (λ (a : Ran). RunMeets document-01 facts query budget store buffer a store buffer) (sym (n .0)) m,
+  subst (λ (cs : List ℕ). CountsMeet document-01 facts query store cs store) (sym (n .1)) c,
+)
 
-  pub size-held : (s : Sizes) (w : Accepted) → Fits facts query relations places low s w → elements w ≡ s .elements
-  size-held s w z = z .given .size ∙ length-take-le (s .elements) places (z .places-inside)
+pub refused-so : (facts query : Text) (budget : ℕ) (store : List ℕ) (buffer : Text) (q : Refusal) → accept document-01 facts query ≡ refused (number q) (place q) → (r : RunAnswer) → NotRun q r
+    → Answered facts query budget store buffer r store buffer
+refused-so facts query budget store buffer q e r n =
+    not-answered facts query budget store buffer q r n (run-refused document-01 facts query budget store buffer q e) (counts-refused document-01 facts query store store q e)
+
+-- the words of relations have their arities
+tags : (facts query : Text) (rs : List ℕ) → Tagged (relations-of facts query rs) rs
+tags facts query [] = no-tags
+tags facts query (r ∷ rs) = tagged refl (tags facts query rs)
 
 module _ (facts query : Text) (relations places low : List ℕ) (w : Accepted) (g : Given facts query relations places low w) where
-  pub too-short : (firsts : List ℕ) (scratch needed : ℕ) (store : List ℕ) (buffer : Text) (budget : ℕ) → LaidOut w firsts scratch needed → length store < needed
-      → RunMeets document-01 facts query budget store buffer (Refused (StoreShort needed)) store buffer
-  too-short firsts scratch needed store buffer budget l h =
-      subst (λ (n : ℕ). RunMeets document-01 facts query budget store buffer (Refused (StoreShort n)) store buffer) (sym (l .needed))
-      (run-short document-01 facts query budget store buffer w (g .accepted) (omega (arith, l .needed)))
+  module _ (firsts : List ℕ) (scratch needed : ℕ) (l : LaidOut w firsts scratch needed) where
+    pub too-short : (store : List ℕ) → length store < needed → (buffer : Text) (budget : ℕ) (r : RunAnswer) → NotRun (StoreShort needed) r → Answered facts query budget store buffer r store buffer
+    too-short store h buffer budget r n =
+        let short : length store < words-needed w = omega (arith, l .needed) in
+        not-answered facts query budget store buffer (StoreShort needed) r n
+        (subst (λ (k : ℕ). RunMeets document-01 facts query budget store buffer (Refused (StoreShort k)) store buffer) (sym (l .needed)) (run-short document-01 facts query budget store buffer w (g .known .accepted) short))
+        (counts-short document-01 facts query store store w (g .known .accepted) short)
 
-  pub ready : (u : ℕ) → u ≡ length places → (firsts : List ℕ) (scratch needed : ℕ) → LaidOut w firsts scratch needed → Ready facts query relations places firsts u w
-  ready u e firsts scratch needed l =
-      record { accepted = g .accepted; relations = g .relations-are; universe = g .universe-is; size = e ∙ sym (g .size); scratch = scratch; laid = l .laid }
+    pub ready : (u : ℕ) → u ≡ length places → Ready facts query relations places firsts u w
+    ready u e = record { known = g .known; size = e ∙ sym (g .size); scratch = scratch; laid = l .laid }
 
-  pub begins : (u : ℕ) → u ≡ length places → (firsts : List ℕ) (scratch needed : ℕ) (store₀ store : List ℕ) → LaidOut w firsts scratch needed → needed ≤ length store₀
-      → store ≡ store-image w (loaded w) store₀ → Begun facts query low firsts places u scratch store₀ store w
-  begins u e firsts scratch needed store₀ store l long i =
-      record { accepted = g .accepted; size = g .size ∙ sym e; laid = l .laid; shows = g .shows; code = g .code; long = omega (arith, l .needed); image = i }
+    pub begins : (u : ℕ) → u ≡ length places → (sizes store₀ store : List ℕ) → needed ≤ length store₀ → store ≡ store-image w (loaded w) store₀ → sizes ≡ counted store u 0 0 relations (replicate 16 0)
+        → Begun facts query low firsts places u scratch sizes store₀ store w
+    begins u e sizes store₀ store long i h =
+        record {
+          accepted = g .known .accepted;
+          size = g .size ∙ sym e;
+          laid = l .laid;
+          shows = g .shows;
+          code = g .code;
+          long = omega (arith, l .needed);
+          image = i;
+          few = omega (arith, g .few-relations, length-map relations (relation-of facts query), ap length (g .known .relations));
+          counted =
+              h ∙ ap₂ (λ (x : List ℕ) (v : ℕ). counted x v 0 0 relations (replicate 16 0)) i (e ∙ sym (g .size))
+              ∙ counted-loaded w relations store₀ (subst (λ (qs : List Relation). Tagged qs relations) (g .known .relations) (tags facts query relations)) (g .few-relations);
+        }

@@ -5,24 +5,21 @@ use mathlib.Core.List.{List, []}
 use lib.ListN.{length, take}
 use Rattle.definition.specs.Text.{Text}
 use Rattle.definition.specs.Limits.{document-01, FACT-BYTES}
-use Rattle.definition.specs.Answer.{ok, refused, number, place}
+use Rattle.definition.specs.Answer.{refused, number, place}
 use Rattle.definition.specs.Accept.{Accepted, accept, elements}
 use Rattle.definition.specs.declared.Refusal.{Refusal}
-use Rattle.parts.specs.Entries.{texts-of}
-use Rattle.facts.specs.Words.{relations-of}
 use Rattle.lines.specs.Lines.{texts}
 use Rattle.lines.proofs.LineLaws.{Shows}
 use Rattle.code.specs.Program.{Code}
+use Rattle.loading.specs.Given.{Known}
 use Rattle.acceptance.specs.declared.Sizes.{Sizes}
 use Rattle.acceptance.specs.declared.Texts.{Texts}
 use Rattle.acceptance.specs.declared.Texts.the-variants as Texts
 
 -- the relations, the universe and the lowered words of the accepted texts w, in lists as long as what they hold
 pub record Given (facts query : Text) (relations places low : List ℕ) (w : Accepted) : Type 0 where
-  pub accepted : accept document-01 facts query ≡ ok w
+  pub known : Known facts query relations places w
   pub size : elements w ≡ length places
-  pub relations-are : relations-of facts query relations ≡ w .relations
-  pub universe-is : texts-of facts query places ≡ w .universe
   pub shows : Shows w (texts facts query places)
   pub code : Code w query low [] (w .program) 0 (length low)
   pub few-relations : length relations ≤ 16

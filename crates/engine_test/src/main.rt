@@ -1,6 +1,6 @@
-// Runs the worked cases of document 01, texts that a wrong engine would answer otherwise, patterns, elements in quotes, and texts that are
-// refused, each with its own budget, store and output. Prints the case's letter, what the text is for or the row, with the query; then what
-// the calls answer and how many bytes of the output are as they were lent.
+// Runs the worked cases of document 01, texts that a wrong engine would answer otherwise, patterns, elements in quotes, numbers of tuples,
+// and texts that are refused, each with its own budget, store and output. Prints the case's letter, what the text is for or the row, with the
+// query; then what the calls answer and how many bytes of the output are as they were lent, or how many tuples each relation has.
 use definition::Checked;
 use definition::Figures;
 use definition::Ran;
@@ -39,7 +39,8 @@ fn put_run(line: &mut [u8], r: Ran) -> usize {
 
 fn run_in<'a>(facts: &'a [u8], query: &'a [u8], budget: u32, store: &mut [u64], output: &mut [u8]) {
     let mut line = [0u8; 256];
-    let r = engine::run(facts, query, budget, store, output);
+    let a = engine::run(facts, query, budget, store, output);
+    let r = a.ran;
     let p = put_run(&mut line, r);
     let q = put(&mut line, p, b',', true);
     let n = put_number(&mut line, q, untouched(output) as u64);
@@ -90,14 +91,15 @@ fn put_verdict(line: &mut [u8], v: Verdict) -> usize {
     }
 }
 
-// A record: text, offset, length, arity and first word.
+// A record: text, offset, length, arity, first word and number of tuples.
 fn put_record(line: &mut [u8], at: usize, r: Record) -> usize {
     let p = put(line, at, b',', true);
     let t = put_number(line, p, r.text as u64);
     let o = put_number(line, t, r.offset as u64);
     let n = put_number(line, o, r.length as u64);
     let k = put_number(line, n, r.arity as u64);
-    put_number(line, k, r.first as u64)
+    let f = put_number(line, k, r.first as u64);
+    put_number(line, f, r.count as u64)
 }
 
 // The verdict and all records, unused ones too.
@@ -116,6 +118,32 @@ fn check<'a>(case: &[u8], facts: &'a [u8], query: &'a [u8]) {
     let mut line = [0u8; 256];
     show_case(case, query);
     let n = put_checked(&mut line, engine::check(facts, query));
+    write_line(&mut line, n);
+}
+
+// The numbers of tuples, unused ones too.
+fn put_counts(line: &mut [u8], at: usize, counts: [usize; 16]) -> usize {
+    let mut n = put(line, at, b',', true);
+    for i in 0..16 {
+        n = put_number(line, n, counts[i] as u64);
+    }
+    n
+}
+
+// How a run in an output of up to 63 bytes ends, and how many tuples its relations then have.
+fn sizes<'a>(case: &[u8], facts: &'a [u8], query: &'a [u8], budget: u32, room: usize) {
+    let mut store = [7u64; 256];
+    let mut output = [255u8; 63];
+    let mut line = [0u8; 256];
+    show_case(case, query);
+    if 63 < room {
+        return;
+    }
+    let a = engine::run(facts, query, budget, &mut store, &mut output[..room]);
+    let ran = a.ran;
+    let counts = a.counts;
+    let p = put_run(&mut line, ran);
+    let n = put_counts(&mut line, p, counts);
     write_line(&mut line, n);
 }
 
@@ -312,6 +340,25 @@ fn quotes() {
     );
 }
 
+// "After any number of steps, spent and full endings included, each count equals the number of tuples in that table".
+fn counted<'a>(facts: &'a [u8], dep: &'a [u8]) {
+    sizes(b"as loaded", facts, dep, 0, 63);
+    sizes(b"spent", facts, dep, 1, 63);
+    sizes(b"full", facts, dep, 2, 62);
+    sizes(b"done", facts, dep, 2, 63);
+    let turns = b"FOR c IN On(x,_) { On(x,y) := On(x,y) & x != c; Q(x) := Q(x) | x = c; }";
+    sizes(b"fewer and more", facts, turns, 6, 0);
+    sizes(b"none and all", facts, turns, 10, 0);
+    sizes(b"row 10", facts, b"P() := ;", 10, 63);
+}
+
+// Facts that stand more than once, bare and in quotes, are one tuple; those that share an element are not.
+fn repeated() {
+    let facts = b"R a b\nP\nR \"a\" b\nS b\nR a b\nP\nR a a\n";
+    check(b"stated again", facts, b"PRINT ENDL;");
+    sizes(b"stated again", facts, b"PRINT ENDL;", 1, 1);
+}
+
 fn main() {
     let f = b"On C10 C5\nOn C5 C2\nOn B7 C10\nHeld B7\n";
     let dep = b"Dep(x,y) := TC(On(x,y)); PRINT [\"Dep\"] Dep(x,y);";
@@ -329,4 +376,6 @@ fn main() {
     patterns(f);
     patterns_refused(f);
     quotes();
+    counted(f, dep);
+    repeated();
 }

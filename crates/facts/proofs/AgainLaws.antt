@@ -1,16 +1,22 @@
 -- The facts read again, line by line.
 use Prim.Native.Nat.{ℕ, _+_, _-_, _<_, _≤_}
 use mathlib.Core.Path.{_≡_, sym, ap, _∙_}
-use mathlib.Core.List.{List, [], _++_}
+use mathlib.Core.List.{List, [], _∷_, _++_}
 use mathlib.Core.Bool.{true, false}
 use native.Mathlib.Omega.{arith}
 use native.Mathlib.Decide.{decLt}
 use lib.ListN.{length, take, drop, drop-of-length-le}
 use Rattle.definition.specs.Text.{Text, ascii, starts, span, gather, all-of}
-use Rattle.definition.specs.Facts.{Fact, cut, without-return, lines}
+use Rattle.definition.specs.Facts.{Fact, cut, without-return, lines, skipped}
 use Rattle.definition.proofs.TextLaws.{no-end}
 use Rattle.facts.specs.Reading.{line-facts, facts-from, line-of}
 use Rattle.facts.proofs.ReadingLaws.{lines-dot, lines-last, lines-more}
+
+-- a line that is not skipped has a byte
+pub some-byte : (l : Text) → skipped l ≡ false → 0 < length l
+unfolding starts all-of
+some-byte [] e = let z : _≡_ {A = ℕ} 0 1 = cc in absurd (omega arith)
+some-byte (x ∷ l) e = omega arith
 
 -- past the end there is nothing but an empty line
 pub facts-end : (xs : Text) (a : ℕ) → length xs ≤ a → facts-from xs a ≡ []

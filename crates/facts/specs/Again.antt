@@ -1,5 +1,5 @@
 -- The facts read again, for their tables: one fact after another.
-use Prim.Native.Nat.{ℕ, _-_, _<_, _≤_}
+use Prim.Native.Nat.{ℕ, _+_, _-_, _<_, _≤_}
 use mathlib.Core.Path.{_≡_}
 use mathlib.Core.Bool.{true, false}
 use mathlib.Core.List.{[], _∷_}
@@ -20,8 +20,8 @@ FactOfLine l (Has f) = AllWithin (length l) f × ((i : ℕ) → says (ok (fact-o
 FactOfLine l Lacks = (i : ℕ) → (starts (ascii ".") l ≡ false) × (line-facts (line-at l i) ≡ [])
 FactOfLine l Last = starts (ascii ".") l ≡ true
 
--- the facts from a place on are the next one and those from the place after its line on
+-- the facts from a place on are the next one and those from the place after its line on; the line has a byte at least, and an end
 abbrev pub NextIs : Text → ℕ → NextFact → Type 0
 NextIs facts at (Fact a f next) =
-    (facts-from facts at ≡ fact-at facts a f ∷ facts-from facts next) × (at ≤ a) × (a < next) × (a ≤ length facts) × AllWithin (length facts - a) f
+    (facts-from facts at ≡ fact-at facts a f ∷ facts-from facts next) × (at ≤ a) × (a + 1 < next) × (a < length facts) × AllWithin (length facts - a) f
 NextIs facts at NoMore = facts-from facts at ≡ []

@@ -1,4 +1,5 @@
 -- The answers of the calls as structs of numbers: `refusal` is 0 where the call succeeds, and fields that do not apply are 0.
+use Prim.Native.Nat.{ℕ}
 use mathlib.Core.List.{List, map}
 use Rattle.definition.specs.Answer.{number, place, ending-number}
 use Rattle.definition.specs.Calls.{Part}
@@ -8,6 +9,7 @@ use Rattle.definition.specs.declared.Verdict.{Verdict}
 use Rattle.definition.specs.declared.Verdict.the-variants as Verdict
 use Rattle.definition.specs.declared.Ran.{Ran}
 use Rattle.definition.specs.declared.Ran.the-variants as Ran
+use Rattle.definition.specs.declared.RunAnswer.{RunAnswer}
 use Rattle.definition.specs.declared.Chained.{Chained}
 use Rattle.definition.specs.declared.Chained.the-variants as Chained
 use Rattle.fields.specs.declared.CRecord.{CRecord}
@@ -17,7 +19,7 @@ use Rattle.fields.specs.declared.CPart.{CPart}
 use Rattle.fields.specs.declared.CChained.{CChained}
 
 abbrev pub record-fields : Record → CRecord
-record-fields r = record { text = r .text; offset = r .offset; length = r .length; arity = r .arity; first = r .first }
+record-fields r = record { text = r .text; offset = r .offset; length = r .length; arity = r .arity; first = r .first; count = r .count }
 
 abbrev pub verdict-fields : Verdict → List CRecord → CChecked
 verdict-fields (Verdict.Accepted f) rs = record { refusal = 0; place = 0; universe = f .universe; words = f .words; relations = f .relations; records = rs }
@@ -26,9 +28,12 @@ verdict-fields (Verdict.Refused q) rs = record { refusal = number q; place = pla
 abbrev pub checked-fields : Checked → CChecked
 checked-fields c = verdict-fields (c .verdict) (map record-fields (c .records))
 
-abbrev pub ran-fields : Ran → CRan
-ran-fields (Ran.Ended s) = record { refusal = 0; place = 0; ending = ending-number (s .ending); steps = s .steps; written = s .written }
-ran-fields (Ran.Refused q) = record { refusal = number q; place = place q; ending = 0; steps = 0; written = 0 }
+abbrev pub ended-fields : Ran → List ℕ → CRan
+ended-fields (Ran.Ended s) cs = record { refusal = 0; place = 0; ending = ending-number (s .ending); steps = s .steps; written = s .written; counts = cs }
+ended-fields (Ran.Refused q) cs = record { refusal = number q; place = place q; ending = 0; steps = 0; written = 0; counts = cs }
+
+abbrev pub ran-fields : RunAnswer → CRan
+ran-fields a = ended-fields (a .ran) (a .counts)
 
 abbrev pub chained-fields : Chained → CChained
 chained-fields (Chained.Chain n) = record { refusal = 0; place = 0; count = n }

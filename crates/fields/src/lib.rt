@@ -11,9 +11,11 @@ use definition::Checked;
 use definition::Ending;
 use definition::Ran;
 use definition::Record;
+use definition::RunAnswer;
 use definition::Verdict;
 
-// A relation: the first place of its name (text 0 is the facts, 1 the query), its arity, and its first word in the store.
+// A relation: the first place of its name (text 0 is the facts, 1 the query), its arity, its first word in the store, and the number of its
+// tuples as loaded.
 #[repr(C)]
 pub struct CRecord {
     pub text: u64,
@@ -21,6 +23,7 @@ pub struct CRecord {
     pub length: u64,
     pub arity: u64,
     pub first: u64,
+    pub count: u64,
 }
 
 // What the check answers.
@@ -34,7 +37,7 @@ pub struct CChecked {
     pub records: [CRecord; 16],
 }
 
-// What the run answers; endings are 0 done, 1 spent, 2 full.
+// What the run answers; endings are 0 done, 1 spent, 2 full. The counts are the relations' numbers of tuples at its end, in store order.
 #[repr(C)]
 pub struct CRan {
     pub refusal: u64,
@@ -42,6 +45,7 @@ pub struct CRan {
     pub ending: u64,
     pub steps: u64,
     pub written: u64,
+    pub counts: [u64; 16],
 }
 
 // A part of the facts (text 0) or of the query (text 1).
@@ -69,6 +73,7 @@ fn record_fields(r: Record) -> CRecord
         length: r.length as u64,
         arity: r.arity as u64,
         first: r.first as u64,
+        count: r.count as u64,
     }
 }
 
@@ -82,6 +87,7 @@ fn all_fields(rs: [Record; 16]) -> [CRecord; 16]
         length: 0,
         arity: 0,
         first: 0,
+        count: 0,
     };
     let mut cs = [none; 16];
     let mut i: usize = 0;
@@ -129,10 +135,27 @@ fn ending_number(e: Ending) -> u64
     }
 }
 
-pub fn ran_fields(a: Ran) -> CRan
+fn wide_counts(ns: [usize; 16]) -> [u64; 16]
+    requires { ⌜ length ns ≡ 16 ⌝ }
+    ensures { λ cs. ⌜ cs ≡ ns ⌝ }
+{
+    let mut cs = [0u64; 16];
+    let mut i: usize = 0;
+    while i < 16 {
+        cs[i] = ns[i] as u64;
+        i += 1;
+    }
+    cs
+}
+
+pub fn ran_fields(a: RunAnswer) -> CRan
+    requires { ⌜ length (a .counts) ≡ 16 ⌝ }
     ensures { λ r. ⌜ r ≡ ran-fields a ⌝ }
 {
-    match a {
+    let ns = a.counts;
+    let counts = wide_counts(ns);
+    let ran = a.ran;
+    match ran {
         Ran::Ended(s) => {
             let ending = s.ending;
             CRan {
@@ -141,6 +164,7 @@ pub fn ran_fields(a: Ran) -> CRan
                 ending: ending_number(ending),
                 steps: s.steps as u64,
                 written: s.written as u64,
+                counts,
             }
         }
         Ran::Refused(q) => CRan {
@@ -149,6 +173,7 @@ pub fn ran_fields(a: Ran) -> CRan
             ending: 0,
             steps: 0,
             written: 0,
+            counts,
         },
     }
 }

@@ -4,5 +4,5 @@ use lib.ListN.{length}
 use Rattle.definition.specs.Facts.{Relation}
 use Rattle.definition.specs.declared.Record.{Record}
 
-abbrev pub record-of : Relation → ℕ → Record
-record-of r f = record { text = r .text; offset = r .at; length = length (r .name); arity = r .arity; first = f }
+abbrev pub record-of : Relation → ℕ → ℕ → Record
+record-of r f n = record { text = r .text; offset = r .at; length = length (r .name); arity = r .arity; first = f; count = n }

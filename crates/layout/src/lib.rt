@@ -6,7 +6,9 @@ ghost use lib.ListN.{length, getD};
 ghost use Rattle.definition.specs.Text.{Text};
 ghost use Rattle.definition.specs.Limits.{document-01};
 ghost use Rattle.definition.specs.Accept.{Accepted, elements};
-ghost use Rattle.definition.specs.Calls.{records};
+ghost use Rattle.definition.specs.Assignment.{loaded};
+ghost use Rattle.definition.specs.Claim.{table-image};
+ghost use Rattle.definition.specs.Calls.{counts, records};
 ghost use Rattle.facts.specs.Words.{relation-of};
 ghost use Rattle.layout.specs.Sizes.{all-words, most-words, TablesAt, ClosuresAt, LaidOut};
 ghost use Rattle.layout.specs.Records.{record-of};
@@ -85,9 +87,9 @@ pub fn lay(relations: &[usize], u: u8, firsts: &mut [u64]) -> Room
     }
 }
 
-// The record of the relation whose word is w and whose table starts at first.
-fn record_of<'a>(facts: &'a [u8], query: &'a [u8], w: usize, first: usize) -> Record
-    ensures { λ r. ⌜ r ≡ record-of (relation-of (now (facts .entry)) (now (query .entry)) w) first ⌝ }
+// The record of the relation whose word is w, whose table starts at first and which has count tuples.
+fn record_of<'a>(facts: &'a [u8], query: &'a [u8], w: usize, first: usize, count: usize) -> Record
+    ensures { λ r. ⌜ r ≡ record-of (relation-of (now (facts .entry)) (now (query .entry)) w) first count ⌝ }
 {
     Record {
         text: w / 4 % 2,
@@ -95,13 +97,20 @@ fn record_of<'a>(facts: &'a [u8], query: &'a [u8], w: usize, first: usize) -> Re
         length: parts::text_of(facts, query, w).len(),
         arity: w % 4,
         first,
+        count,
     }
 }
 
-// The records of some relations over u elements, unused ones zero.
-pub fn records<'a>(facts: &'a [u8], query: &'a [u8], relations: &[usize], u: u8) -> [Record; 16]
+// The records of some relations over u elements, with the numbers of their tuples; unused ones zero.
+pub fn records<'a>(
+    facts: &'a [u8],
+    query: &'a [u8],
+    relations: &[usize],
+    u: u8,
+    sizes: [usize; 16],
+) -> [Record; 16]
     requires { ⌜ (length (now relations) ≤ 16) × (u ≤ 64) ⌝ }
-    ensures { λ r. ⌜ ((w : Accepted) → map (relation-of (now (facts .entry)) (now (query .entry))) (now (relations .entry)) ≡ w .relations → elements w ≡ u → r ≡ records document-01 w) ⌝ }
+    ensures { λ r. ⌜ ((w : Accepted) → map (relation-of (now (facts .entry)) (now (query .entry))) (now (relations .entry)) ≡ w .relations → elements w ≡ u → sizes ≡ counts document-01 w (table-image (loaded w)) → r ≡ records document-01 w) ⌝ }
 {
     let none = Record {
         text: 0,
@@ -109,13 +118,14 @@ pub fn records<'a>(facts: &'a [u8], query: &'a [u8], relations: &[usize], u: u8)
         length: 0,
         arity: 0,
         first: 0,
+        count: 0,
     };
     let mut rs = [none; 16];
     let mut next: usize = 0;
     let mut i: usize = 0;
     while i < relations.len() {
         let w = relations[i];
-        rs[i] = record_of(facts, query, w, next);
+        rs[i] = record_of(facts, query, w, next, sizes[i]);
         next += table_words(u, w % 4);
         i += 1;
     }

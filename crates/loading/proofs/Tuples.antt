@@ -1,7 +1,7 @@
 -- The elements of an accepted fact, by their numbers in the universe.
 use Prim.Native.Nat.{ℕ, zero, suc, _+_, _%_, _<_, _≤_}
 use mathlib.Core.Path.{_≡_, refl, sym, ap, subst, _∙_}
-use mathlib.Core.List.{List, [], _∷_, _++_, map}
+use mathlib.Core.List.{List, [], _∷_, map}
 use native.Mathlib.Nat.{mod-eq-of-lt}
 use native.Mathlib.Omega.{arith}
 use native.Mathlib.Decide.{decLt}
@@ -9,10 +9,9 @@ use lib.Dec.{T}
 use lib.ListN.{length, getD, take, drop}
 use Rattle.definition.specs.Text.{Text, same, member, some-of}
 use Rattle.definition.specs.Limits.{WORD-BYTES, ARITY}
-use Rattle.definition.specs.Facts.{Fact}
 use Rattle.definition.proofs.BoolLaws.{or-left, or-right}
 use Rattle.definition.proofs.MeaningLaws.{same-eq, same-refl}
-use Rattle.definition.proofs.AcceptLaws.{has, in-facts}
+use Rattle.definition.proofs.AcceptLaws.{has}
 use Rattle.tuples.proofs.Loading.{Numbered, none, one}
 use Rattle.parts.specs.Packed.{pack, text-of}
 use Rattle.parts.specs.Entries.{position, index, texts-of}
@@ -24,12 +23,6 @@ use Rattle.facts.specs.Lines.{AllWithin, start-of, items-of}
 use Rattle.facts.specs.Words.{element-at}
 use Rattle.facts.proofs.UseLaws.{facts-text}
 use Rattle.loading.specs.Given.{element-number}
-
--- what is among the elements of one of the facts
-pub in-one : (x : Text) (fs : List Fact) (f : Fact) (gs : List Fact) → T (has x (f .elements)) → T (in-facts x (fs ++ (f ∷ gs)))
-unfolding in-facts some-of
-in-one x [] f gs h = or-left (has x (f .elements)) (in-facts x gs) h
-in-one x (g ∷ fs) f gs h = or-right (has x (g .elements)) (in-facts x (fs ++ (f ∷ gs))) (in-one x fs f gs h)
 
 -- a text among those of some parts is that of the part found
 pub found : (facts query : Text) (v : ℕ) (ws : List ℕ) → T (member (text-of facts query v) (texts-of facts query ws))

@@ -28,11 +28,15 @@ module _ (facts query : Text) where
   abbrev pub tuple-at : List ℕ → ℕ → FactLine → Tuple
   tuple-at places a f = map (element-number places a) (items-of f)
 
-  -- relations and elements as parts, and the first words of the tables
-  pub record Ready (rs places firsts : List ℕ) (u : ℕ) (w : Accepted) : Type 0 where
+  -- relations and elements as parts
+  pub record Known (rs places : List ℕ) (w : Accepted) : Type 0 where
     pub accepted : accept document-01 facts query ≡ ok w
     pub relations : map (relation-of facts query) rs ≡ w .relations
     pub universe : map (text-of facts query) places ≡ w .universe
+
+  -- and the first words of the tables
+  pub record Ready (rs places firsts : List ℕ) (u : ℕ) (w : Accepted) : Type 0 where
+    pub known : Known rs places w
     pub size : u ≡ elements w
     pub scratch : ℕ
     pub laid : Laid w firsts scratch

@@ -47,7 +47,7 @@ fn element_number<'a>(
 }
 
 // The tuple of a fact of the line that starts at a: as many elements are looked up as it has.
-fn fact_tuple<'a>(
+pub fn fact_tuple<'a>(
     facts: &'a [u8],
     query: &'a [u8],
     places: &[usize],

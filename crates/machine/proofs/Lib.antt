@@ -8,4 +8,5 @@ pub mod Stops
 pub mod Quiets
 pub mod Acting
 pub mod Goings
+pub mod Recounting
 pub mod Placing

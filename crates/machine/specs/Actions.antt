@@ -15,6 +15,7 @@ use Rattle.definition.specs.Assignment.{assign-tables}
 use Rattle.definition.specs.Print.{print-text}
 use Rattle.definition.specs.Run.{point}
 use Rattle.definition.specs.Claim.{store-image}
+use Rattle.definition.proofs.RelationLaws.{place-of, no-relation}
 
 pub record Actions : Type 0 where
   -- whether the test at a place is true
@@ -27,6 +28,9 @@ pub record Actions : Type 0 where
   pub prints : List ℕ → List ℕ → ℕ → Text
   -- the store after a test, a FOR's set or a PRINT at a place, which work in the scratch words
   pub leaves : List ℕ → List ℕ → ℕ → List ℕ
+  -- the number of the relation that the assignment at a place changes, and how many columns it has
+  pub target : ℕ → ℕ
+  pub columns : ℕ → ℕ
 
 -- of the n numbers from a on, those whose bit is set in s, ascending
 unfoldable pub members : ℕ → ℕ → ℕ → List ℕ
@@ -69,6 +73,10 @@ module _ (w : Accepted) (A : Actions) where
     pub right : (n : ℕ) (vs store₀ : List ℕ) → Handed scope vs store₀
         → A .assigns vs (store-at n store₀) at
         ≡ store-image w (assign-tables w (point w n .tables) (scope-environment scope vs) (r .text) ps e (w .relations) (point w n .tables)) store₀
+    pub relation : A .target at ≡ place-of (r .text) (w .relations)
+    pub known : place-of (r .text) (w .relations) < length (w .relations)
+    pub arity : A .columns at ≡ getD (w .relations) (place-of (r .text) (w .relations)) no-relation .arity
+    pub few : A .columns at ≤ 4
 
   pub record Prints (scope : List Text) (at : ℕ) (is : List Item) : Type 0 where
     pub leaves : Leaves scope at

@@ -5,4 +5,5 @@ pub mod Actions
 pub mod Placed
 pub mod Turns
 pub mod Standing
+pub mod Recounts
 pub mod Bound

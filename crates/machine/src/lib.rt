@@ -9,14 +9,18 @@ ghost use Rattle.words.specs.Fields.{kind-of, PRINT};
 ghost use Rattle.lines.specs.Lines.{texts};
 ghost use Rattle.actions.specs.Doing.{left-by, test-by, print-by};
 ghost use Rattle.machine.specs.Turns.{Settled, Quiet, next-at, held, turn};
-ghost use Rattle.machine.specs.Bound.{actions, Turned, stopped-of, Goes};
+ghost use Rattle.machine.specs.Recounts.{target-in, columns-in, counts-after};
+ghost use Rattle.machine.specs.Bound.{actions, Turned, stopped-of, Goes, Counts-right};
+ghost use Rattle.counts.specs.Counting.{recounted};
 use actions::assign_at;
 use actions::print_at;
 use actions::range_at;
 use actions::test_at;
 use bits::test_bit;
+use counts::recount;
 use definition::Ending;
 use words::previous;
+use words::word_at;
 
 // The least member of s from `from` on, or u where none is below u.
 fn seek(s: u64, from: u8, u: u8) -> u8
@@ -108,6 +112,23 @@ fn take(sets: &[u64; 32], cursors: &mut [u8; 32], vars: &mut [u8; 32], u: u8, d:
     vars[d] = a;
 }
 
+// The count of the relation that the assignment at a place has changed.
+fn recount_at(
+    words: &[u64],
+    firsts: &[u64],
+    u: u8,
+    store: &[u64],
+    at: usize,
+    counts: &mut [usize; 16],
+)
+    ensures { λ _. ⌜ now (counts .exit) ≡ recounted (now (store .entry)) (getD (now (firsts .entry)) (target-in (now (words .entry)) at) 0) u (columns-in (now (words .entry)) at) (target-in (now (words .entry)) at) (now (counts .entry)) ⌝ }
+{
+    let w = word_at(words, at);
+    let k = (w / 256 % 65536) as usize;
+    let n = (w / 72057594037927936 % 256) as usize;
+    recount(store, word_at(firsts, k) as usize, u, n, k, counts);
+}
+
 // The step at a place that is no PRINT, and where it goes on.
 fn step(
     words: &[u64],
@@ -118,10 +139,12 @@ fn step(
     sets: &mut [u64; 32],
     cursors: &mut [u8; 32],
     vars: &mut [u8; 32],
+    counts: &mut [usize; 16],
     pc: usize,
 ) -> usize
     requires { ⌜ (u < 65) × (pc < length (now words)) × (kind-of (getD (now words) pc 0) ≡ PRINT → ⊥) ⌝ }
     ensures { λ r. ⌜ ((p : List ℕ → List ℕ → ℕ → List ℕ) (used : ℕ) (buffer : List ℕ) → held r used (now (store .exit)) buffer (now (sets .exit)) (now (cursors .exit)) (now (vars .exit)) ≡ turn (actions (now (words .entry)) (now (firsts .entry)) u scr p) u (now (words .entry)) (held pc used (now (store .entry)) buffer (now (sets .entry)) (now (cursors .entry)) (now (vars .entry)))) ⌝ }
+    ensures { λ r. ⌜ now (counts .exit) ≡ counts-after (target-in (now (words .entry))) (columns-in (now (words .entry))) u (now (firsts .entry)) (now (words .entry)) pc (now (store .exit)) (now (counts .entry)) ⌝ }
 {
     let w = words[pc];
     let n = (w / 16777216 % 65536) as usize;
@@ -138,6 +161,7 @@ fn step(
         }
         33 => {
             assign_at(words, store, firsts, vars, u, scr, pc);
+            recount_at(words, firsts, u, store, pc, counts);
             pc + 1
         }
         34 => branch(words, store, firsts, vars, u, pc, pc + 1, n),
@@ -167,14 +191,27 @@ fn act<'a>(
     sets: &mut [u64; 32],
     cursors: &mut [u8; 32],
     vars: &mut [u8; 32],
+    counts: &mut [usize; 16],
     pc: usize,
     used: usize,
 ) -> Acted
     requires { ⌜ (u < 65) × (pc < length (now words)) ⌝ }
     ensures { λ r. ⌜ Turned (actions (now (words .entry)) (now (firsts .entry)) u scr (print-by (now (words .entry)) (now (firsts .entry)) u (texts (now (facts .entry)) (now (query .entry)) (now (places .entry))))) u (now (words .entry)) (held pc used (now (store .entry)) (now (out .entry)) (now (sets .entry)) (now (cursors .entry)) (now (vars .entry))) (r .full) (held (r .pc) (r .used) (now (store .exit)) (now (out .exit)) (now (sets .exit)) (now (cursors .exit)) (now (vars .exit))) ⌝ }
+    ensures { λ r. ⌜ now (counts .exit) ≡ counts-after (target-in (now (words .entry))) (columns-in (now (words .entry))) u (now (firsts .entry)) (now (words .entry)) pc (now (store .exit)) (now (counts .entry)) ⌝ }
 {
     if words[pc] % 256 != 37 {
-        let n = step(words, firsts, u, scr, store, sets, cursors, vars, pc);
+        let n = step(
+            words,
+            firsts,
+            u,
+            scr,
+            store,
+            sets,
+            cursors,
+            vars,
+            counts,
+            pc,
+        );
         return Acted {
             pc: n,
             used: used,
@@ -248,11 +285,13 @@ pub fn go<'a>(
     sets: &mut [u64; 32],
     cursors: &mut [u8; 32],
     vars: &mut [u8; 32],
+    counts: &mut [usize; 16],
     m: Machine,
     limit: u32,
 ) -> Went
     requires { ⌜ (u < 65) × (m .steps ≤ limit) ⌝ }
     ensures { λ r. ⌜ Goes (actions (now (words .entry)) (now (firsts .entry)) u scr (print-by (now (words .entry)) (now (firsts .entry)) u (texts (now (facts .entry)) (now (query .entry)) (now (places .entry))))) u (now (words .entry)) limit (held (m .pc) (m .used) (now (store .entry)) (now (out .entry)) (now (sets .entry)) (now (cursors .entry)) (now (vars .entry))) (m .steps) (stopped-of r) (held (r .machine .pc) (r .machine .used) (now (store .exit)) (now (out .exit)) (now (sets .exit)) (now (cursors .exit)) (now (vars .exit))) ⌝ }
+    ensures { λ r. ⌜ Counts-right (actions (now (words .entry)) (now (firsts .entry)) u scr (print-by (now (words .entry)) (now (firsts .entry)) u (texts (now (facts .entry)) (now (query .entry)) (now (places .entry))))) u (now (words .entry)) (now (firsts .entry)) (held (m .pc) (m .used) (now (store .entry)) (now (out .entry)) (now (sets .entry)) (now (cursors .entry)) (now (vars .entry))) (m .steps) (now (counts .entry)) (r .machine .steps) (now (counts .exit)) ⌝ }
 {
     let mut pc = m.pc;
     let mut steps = m.steps;
@@ -278,6 +317,7 @@ pub fn go<'a>(
             sets,
             cursors,
             vars,
+            counts,
             at,
             used,
         );

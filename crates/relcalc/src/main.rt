@@ -36,8 +36,9 @@ fn calculate<'a>(
     ensures { λ r. ⌜ Prints (now (facts .entry)) (now (query .entry)) (now (store .entry)) (now (output .entry)) (now (line .entry)) r (now (store .exit)) (now (output .exit)) (now (line .exit)) ⌝ }
 {
     let a = engine::run(facts, query, 1000000, store, output);
-    let n = page::shown(a);
-    let k = page::close(a, line);
+    let ran = a.ran;
+    let n = page::shown(ran);
+    let k = page::close(ran, line);
     Printed { output: n, line: k }
 }
 

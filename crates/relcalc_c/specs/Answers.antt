@@ -4,9 +4,9 @@ use mathlib.Core.Path.{_≡_}
 use mathlib.Core.List.{List}
 use Rattle.definition.specs.Text.{Text}
 use Rattle.definition.specs.Limits.{document-01}
-use Rattle.definition.specs.Calls.{CheckMeets, RunMeets, ChainMeets}
+use Rattle.definition.specs.Calls.{CheckMeets, RunMeets, CountsMeet, ChainMeets}
 use Rattle.definition.specs.declared.Checked.{Checked}
-use Rattle.definition.specs.declared.Ran.{Ran}
+use Rattle.definition.specs.declared.RunAnswer.{RunAnswer}
 use Rattle.definition.specs.declared.Chained.{Chained}
 use Rattle.fields.specs.declared.CChecked.{CChecked}
 use Rattle.fields.specs.declared.CRan.{CRan}
@@ -19,8 +19,9 @@ pub record CheckAnswers (facts query : Text) (r : CChecked) : Type 0 where
   pub fields : r ≡ checked-fields answer
 
 pub record RunAnswers (facts query : Text) (budget : ℕ) (store : List ℕ) (output : Text) (r : CRan) (store′ : List ℕ) (output′ : Text) : Type 0 where
-  pub answer : Ran
-  pub meets : RunMeets document-01 facts query budget store output answer store′ output′
+  pub answer : RunAnswer
+  pub meets : RunMeets document-01 facts query budget store output (answer .ran) store′ output′
+  pub counts : CountsMeet document-01 facts query store (answer .counts) store′
   pub fields : r ≡ ran-fields answer
 
 pub record ChainAnswers (facts name first second : Text) (buffer : List ℕ) (r : CChained) (buffer′ : List ℕ) : Type 0 where

@@ -10,3 +10,4 @@ pub mod Columns
 pub mod Assigning
 pub mod Programs
 pub mod Runs
+pub mod Counted

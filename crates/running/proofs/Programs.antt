@@ -66,7 +66,13 @@ module _ (w : Accepted) (firsts : List ℕ) (scr : ℕ) (laid : Laid w firsts sc
 
   assigns-so : {scope : List Text} {s k : ℕ} {r : Token} {ps : List Term} {x : Expression} → Whole low s k → AssignCode w (T .query) low scope s k r ps x → Assigns w A scope k r ps x
   assigns-so {scope} {s} {k} whole c =
-      record { right = λ n vs store₀ h. assigned-store w firsts scr laid low (T .query) scope s k whole c (point w n .tables) (point-shaped w n) vs store₀ (h .long) (h .inside) }
+      record {
+        right = λ n vs store₀ h. assigned-store w firsts scr laid low (T .query) scope s k whole c (point w n .tables) (point-shaped w n) vs store₀ (h .long) (h .inside);
+        relation = c .number;
+        known = c .known;
+        arity = c .count ∙ c .arity;
+        few = omega (arith, c .count, c .short);
+      }
 
   pub placed-so : {scope : List Text} {p : Program} {s e : ℕ} → Code w (T .query) low scope p s e → Placed w A low scope p s e
   placed-so code-end = placed-end

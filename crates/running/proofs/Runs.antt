@@ -27,7 +27,7 @@ use Rattle.running.proofs.Programs.{holds-program}
 
 module _ (w : Accepted) (firsts : List ℕ) (scr : ℕ) (laid : Laid w firsts scr) (T : Texts) (shows : Shows w T) (low : List ℕ) (code : Code w (T .query) low [] (w .program) 0 (length low))
     (u : ℕ) (size : elements w ≡ u) (store₀ : List ℕ) (long : words-needed w ≤ length store₀) (buffer₀ : Text) where
-  abbrev A : Actions
+  abbrev pub A : Actions
   A = actions low firsts u scr (print-by low firsts u T)
 
   -- where the tables are loaded, the machine stands at the start of the run

@@ -10,8 +10,8 @@ use native.Mathlib.Numerals.{add-one}
 use borrow.Author.Tests.{eq-eqb, ne-eqb, eqb-true, eqb-false}
 use lib.Dec.{eqb, T}
 use lib.Arith.{digits-lt, digits-div, lt-one}
-use lib.ListN.{length, getD, set, length-set, replicate, length-replicate, getD-replicate, List·getD-eq-default, List·getD-append}
-use lib.Seq.{ext-getD, set-out, getD-set-same, getD-set-other}
+use lib.ListN.{length, getD, set, take, length-set, replicate, length-replicate, getD-replicate, List·getD-eq-default, List·getD-append}
+use lib.Seq.{ext-getD, take-suc, set-out, getD-set-same, getD-set-other}
 use Rattle.bits.specs.Bits.{with-bit}
 use Rattle.bits.proofs.Laws.{bit-with, with-lt, word-bit, word-ext, word-lt, word-same, bit-none}
 use lib.Pow.{pow-pos}
@@ -19,7 +19,7 @@ use Rattle.definition.specs.Text.{same}
 use Rattle.definition.specs.Tables.{Tuple, bit, word, holds-from, holds, table, table-words}
 use Rattle.definition.proofs.TableLaws.{length-table, Below}
 use Rattle.definition.proofs.MeaningLaws.{same-eq, same-refl}
-use Rattle.tuples.specs.Places.{digits, width, word-at, bit-at, with-tuple}
+use Rattle.tuples.specs.Places.{digits, number-at, width, word-at, bit-at, with-tuple}
 use Rattle.tuples.proofs.Digits.{pos, length-digits, digits-below, digits-snoc, words-pow, table-row}
 
 -- ---- words that are a table's
@@ -44,20 +44,16 @@ table-same u n f g h =
 
 -- ---- a tuple's number
 
-abbrev value : ℕ → ℕ → Tuple → ℕ
-value u w [] = w
-value u w (a ∷ t) = value u (u * w + a) t
+number-snoc : (u w : ℕ) (t : Tuple) (a : ℕ) → number-at u w (t ++ (a ∷ [])) ≡ u * number-at u w t + a
+number-snoc u w [] a = refl
+number-snoc u w (x ∷ t) a = number-snoc u (u * w + x) t a
 
-value-snoc : (u w : ℕ) (t : Tuple) (a : ℕ) → value u w (t ++ (a ∷ [])) ≡ u * value u w t + a
-value-snoc u w [] a = refl
-value-snoc u w (x ∷ t) a = value-snoc u (u * w + x) t a
-
-value-digits : (u n i : ℕ) → i < u ^ n → value u 0 (digits u n i) ≡ i
+pub number-digits : (u n i : ℕ) → i < u ^ n → number-at u 0 (digits u n i) ≡ i
 unfolding digits
-value-digits u zero i h = sym (lt-one (rw pow-zero at h))
-value-digits u (suc n) i h =
-    value-snoc u 0 (digits u n (i / u)) (i % u)
-    ∙ ap (λ (k : ℕ). u * k + i % u) (value-digits u n (i / u) (div-lt-iff-lt-mul (positive u n i h) .1 (rw pow-suc at h)))
+number-digits u zero i h = sym (lt-one (rw pow-zero at h))
+number-digits u (suc n) i h =
+    number-snoc u 0 (digits u n (i / u)) (i % u)
+    ∙ ap (λ (k : ℕ). u * k + i % u) (number-digits u n (i / u) (div-lt-iff-lt-mul (positive u n i h) .1 (rw pow-suc at h)))
     ∙ div-add-mod i u
   where
     positive : (u n i : ℕ) → i < u ^ suc n → 0 < u
@@ -65,7 +61,7 @@ value-digits u (suc n) i h =
     positive (suc u) n i l = zero-lt-suc u
 
 pub digits-inj : (u n i j : ℕ) → i < u ^ n → j < u ^ n → digits u n i ≡ digits u n j → i ≡ j
-digits-inj u n i j h l e = sym (value-digits u n i h) ∙ ap (value u 0) e ∙ value-digits u n j l
+digits-inj u n i j h l e = sym (number-digits u n i h) ∙ ap (number-at u 0) e ∙ number-digits u n j l
 
 -- a tuple is the digits of its word and its bit
 place-from : (u k w : ℕ) (a : ℕ) (t : Tuple) → Below u (a ∷ t) → digits u k w ++ (a ∷ t) ≡ digits u (k + suc (length t)) (word-at u w (a ∷ t) * u + bit-at (a ∷ t))
@@ -97,6 +93,14 @@ bit-lt-width u [] h = zero-lt-suc 0
 bit-lt-width u (a ∷ []) h = h .0
 bit-lt-width u (a ∷ b ∷ t) h = bit-lt-width u (b ∷ t) (h .1)
 
+number-from : (u w a : ℕ) (t : Tuple) → number-at u w (a ∷ t) ≡ word-at u w (a ∷ t) * u + bit-at (a ∷ t)
+number-from u w a [] = ap (λ (k : ℕ). k + a) (mul-comm u w)
+number-from u w a (b ∷ t) = number-from u (u * w + a) b t
+
+number-place : (u : ℕ) (t : Tuple) → number-at u 0 t ≡ word-at u 0 t * width u (length t) + bit-at t
+number-place u [] = refl
+number-place u (a ∷ t) = number-from u 0 a t
+
 -- the definition's test by the word and the bit
 pub holds-place : (u : ℕ) (ws : List ℕ) (w : ℕ) (t : Tuple) → holds-from u ws w t ≡ bit (getD ws (word-at u w t) 0) (bit-at t)
 unfolding holds-from
@@ -108,10 +112,14 @@ pub holds-at : (u : ℕ) (ws : List ℕ) (t : Tuple) → holds u ws t ≡ bit (g
 unfolding holds
 holds-at u ws t = holds-place u ws 0 t
 
-word-snoc : (u w : ℕ) (t : Tuple) (a : ℕ) → word-at u w (t ++ (a ∷ [])) ≡ value u w t
+word-snoc : (u w : ℕ) (t : Tuple) (a : ℕ) → word-at u w (t ++ (a ∷ [])) ≡ number-at u w t
 word-snoc u w [] a = refl
 word-snoc u w (x ∷ []) a = refl
 word-snoc u w (x ∷ y ∷ t) a = word-snoc u (u * w + x) (y ∷ t) a
+
+-- a tuple's word by the tuple without its last element
+pub word-number : (u n : ℕ) (t : Tuple) → n < length t → number-at u 0 (take n t) ≡ word-at u 0 (take (suc n) t)
+word-number u n t h = sym (ap (word-at u 0) (take-suc t n 0 h) ∙ word-snoc u 0 (take n t) (getD t n 0))
 
 bit-snoc : (t : Tuple) (a : ℕ) → bit-at (t ++ (a ∷ [])) ≡ a
 bit-snoc [] a = refl
@@ -126,7 +134,7 @@ holds-row u (suc n) w b ws h l =
     ap (holds u ws) (digits-snoc u n w b l)
     ∙ holds-at u ws (digits u n w ++ (b ∷ []))
     ∙ ap₂ (λ (i j : ℕ). bit (getD ws i 0) j)
-    (word-snoc u 0 (digits u n w) b ∙ value-digits u n w (subst (λ (k : ℕ). w < k) (words-pow u n) h))
+    (word-snoc u 0 (digits u n w) b ∙ number-digits u n w (subst (λ (k : ℕ). w < k) (words-pow u n) h))
     (bit-snoc (digits u n w) b)
 
 -- words past the end are zero, and a tuple there is not added
@@ -178,6 +186,12 @@ count-tuples u (suc n) = ap (λ (k : ℕ). k * u) (words-pow u n) ∙ sym (pow-s
 module _ (u : ℕ) (t : Tuple) (h : Below u t) where
   number-lt : (w b : ℕ) → w < table-words u (length t) → b < width u (length t) → w * width u (length t) + b < u ^ length t
   number-lt w b l m = rw (← count-tuples u (length t)) (digits-lt l m)
+
+  pub digits-number : digits u (length t) (number-at u 0 t) ≡ t
+  digits-number = ap (digits u (length t)) (number-place u t) ∙ sym (place u t h)
+
+  pub number-below : number-at u 0 t < u ^ length t
+  number-below = rw number-place (number-lt (word-at u 0 t) (bit-at t) (word-lt-words u t h) (bit-lt-width u t h))
 
   same-number : (w b : ℕ) → w < table-words u (length t) → b < width u (length t) → digits u (length t) (w * width u (length t) + b) ≡ t → w * width u (length t) + b ≡ word-at u 0 t * width u (length t) + bit-at t
   same-number w b l m e =

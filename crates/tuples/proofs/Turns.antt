@@ -1,4 +1,4 @@
--- A table's words, a tuple's word, bit and digits, one element a turn.
+-- A table's words, a tuple's number, bit and digits, one element a turn.
 use Prim.Native.Nat.{ℕ, zero, suc, _+_, _-_, _*_, _/_, _%_, _^_, _<_, _≤_}
 use mathlib.Core.Path.{_≡_, refl, sym, ap, ap₂, _∙_}
 use mathlib.Core.List.{List, [], _∷_, _++_, append-assoc, append-nil}
@@ -9,7 +9,7 @@ use lib.Arith.{digits-lt}
 use lib.ListN.{length, getD, set, take, drop, length-set}
 use lib.Seq.{drop-cons, getD-set-same, drop-set-lt}
 use Rattle.definition.specs.Tables.{table-words}
-use Rattle.tuples.specs.Places.{digits, word-at, bit-at}
+use Rattle.tuples.specs.Places.{digits, bit-at}
 use Rattle.tuples.proofs.Digits.{words-pow}
 
 pub words-one : (u : ℕ) → 1 ≡ table-words u 1
@@ -40,32 +40,6 @@ bit-last n [] h = absurd (not-suc-le-zero h)
 bit-last zero (a ∷ t) h = refl
 bit-last (suc n) (a ∷ []) h = absurd (not-suc-le-zero (le-of-suc-le-suc h))
 bit-last (suc n) (a ∷ b ∷ t) h = bit-last n (b ∷ t) (le-of-suc-le-suc h)
-
--- two elements or more are left
-pub word-step : (u w k n : ℕ) (t : List ℕ) → k + 1 < n → n ≤ length t
-    → word-at u w (take (n - k) (drop k t)) ≡ word-at u (u * w + getD t k 0) (take (n - (k + 1)) (drop (k + 1) t))
-word-step u w k n t h l =
-    ap₂ (λ (m : ℕ) (s : List ℕ). word-at u w (take m s)) m₁ (drop-cons t k 0 (omega arith) ∙ ap (λ (s : List ℕ). getD t k 0 ∷ s) d)
-    ∙ ap₂ (λ (m : ℕ) (s : List ℕ). word-at u (u * w + getD t k 0) (take m s)) (sym m₂) (sym d ∙ ap (λ (j : ℕ). drop j t) (sym (add-one k)))
-  where
-    m₁ : n - k ≡ suc (suc (n - (k + 2)))
-    m₁ = omega arith
-
-    m₂ : n - (k + 1) ≡ suc (n - (k + 2))
-    m₂ = omega arith
-
-    d : drop (suc k) t ≡ getD t (suc k) 0 ∷ drop (suc (suc k)) t
-    d = drop-cons t (suc k) 0 (omega arith)
-
--- one is left, or none
-few : (u w m : ℕ) (s : List ℕ) → m ≤ 1 → word-at u w (take m s) ≡ w
-few u w zero s h = refl
-few u w (suc zero) [] h = refl
-few u w (suc zero) (a ∷ s) h = refl
-few u w (suc (suc m)) s h = absurd (not-suc-le-zero (le-of-suc-le-suc h))
-
-pub word-end : (u w k n : ℕ) (t : List ℕ) → n ≤ k + 1 → word-at u w (take (n - k) (drop k t)) ≡ w
-word-end u w k n t h = few u w (n - k) (drop k t) (omega arith)
 
 pub step-lt : (u w k a : ℕ) → u < 256 → w < 256 ^ k → a < 256 → u * w + a < 256 ^ (k + 1)
 step-lt u w k a h l m = rw (add-one, pow-suc) (lt-of-le-of-lt le (digits-lt l m))

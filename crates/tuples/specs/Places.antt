@@ -10,6 +10,11 @@ unfoldable pub digits : ℕ → ℕ → ℕ → Tuple
 digits u zero i = []
 digits u (suc n) i = digits u n (i / u) ++ (i % u ∷ [])
 
+-- the number of a tuple, counted on from w: `digits` undone
+abbrev pub number-at : ℕ → ℕ → Tuple → ℕ
+number-at u w [] = w
+number-at u w (a ∷ t) = number-at u (u * w + a) t
+
 -- the bits in use of each word of a table of arity n; tuple i stands at bit i % width of word i / width
 abbrev pub width : ℕ → ℕ → ℕ
 width u zero = 1

@@ -4,7 +4,7 @@ ghost use Prim.Native.Nat.{_+_, _≤_, _<_, _^_};
 ghost use lib.ListN.{length, take, drop};
 ghost use lib.Seq.{sets};
 ghost use Rattle.definition.specs.Tables.{holds, table-words};
-ghost use Rattle.tuples.specs.Places.{digits, word-at, bit-at, with-tuple};
+ghost use Rattle.tuples.specs.Places.{digits, number-at, word-at, bit-at, with-tuple};
 use bits::set_bit;
 use bits::test_bit;
 
@@ -45,18 +45,29 @@ pub fn tuple_of(u: u8, n: usize, i: usize) -> [u8; 4]
     t
 }
 
-// The number of a tuple's word in its table.
+// The number of a tuple, whose elements are its digits.
+pub fn tuple_number(u: u8, n: usize, t: [u8; 4]) -> usize
+    requires { ⌜ n ≤ 4 ⌝ }
+    ensures { λ r. ⌜ (r ≡ number-at u 0 (take n t)) × (r < 4294967296) ⌝ }
+{
+    let mut i: usize = 0;
+    let mut k: usize = 0;
+    while k < n {
+        i = u as usize * i + wide(t[k]);
+        k += 1;
+    }
+    i
+}
+
+// The number of a tuple's word in its table: that of the tuple without its last element.
 pub fn place_word(u: u8, n: usize, t: [u8; 4]) -> usize
     requires { ⌜ n ≤ 4 ⌝ }
     ensures { λ r. ⌜ (r ≡ word-at u 0 (take n t)) × (r < 4294967296) ⌝ }
 {
-    let mut w: usize = 0;
-    let mut k: usize = 0;
-    while k + 1 < n {
-        w = u as usize * w + wide(t[k]);
-        k += 1;
+    if n == 0 {
+        return 0;
     }
-    w
+    tuple_number(u, n - 1, t)
 }
 
 // A tuple's bit in its word.

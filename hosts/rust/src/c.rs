@@ -8,6 +8,7 @@ pub struct Record {
     pub length: u64,
     pub arity: u64,
     pub first: u64,
+    pub count: u64,
 }
 
 #[repr(C)]
@@ -29,6 +30,7 @@ pub struct Ran {
     pub ending: u64,
     pub steps: u64,
     pub written: u64,
+    pub counts: [u64; 16],
 }
 
 #[repr(C)]

@@ -8,6 +8,7 @@
 //! let ran = relcalc::run(facts, query, 1_000_000, &mut store, &mut output).unwrap();
 //! assert_eq!(ran.ending, relcalc::Ending::Done);
 //! assert_eq!(&output[..ran.written], b"C10 C2\nC10 C5\nC5 C2\n");
+//! assert_eq!(ran.counts[..2], [2, 3]); // tuples of On and Dep
 //! ```
 pub mod c;
 mod explain;
@@ -18,6 +19,8 @@ pub use pattern::Fault;
 
 /// Words of store that are enough for every accepted pair of texts.
 pub const STORE_WORDS: usize = 70_656;
+/// Relations that facts and query may have together.
+pub const RELATIONS: usize = 16;
 /// Bytes that a chain needs at least, and that are enough for each.
 pub const CHAIN_BYTES: usize = 65;
 
@@ -113,12 +116,13 @@ impl Part {
     }
 }
 
-/// A relation: the first place of its name, its arity and its first word in the store.
+/// A relation: the first place of its name, its arity, its first word in the store and the number of its tuples as loaded.
 #[derive(Clone, Copy, Debug, PartialEq, Eq)]
 pub struct Relation {
     pub name: Part,
     pub arity: usize,
     pub first: usize,
+    pub count: usize,
 }
 
 /// The number of elements, the words that a run needs, and the relations in store order.
@@ -136,18 +140,24 @@ pub enum Ending {
     Full,
 }
 
+/// How a run ended, the steps completed, the bytes written, and the number of tuples of each relation then: in store order, as the
+/// relations of `check`, and 0 where there is none.
 #[derive(Clone, Copy, Debug, PartialEq, Eq)]
 pub struct Ran {
     pub ending: Ending,
     pub steps: u32,
     pub written: usize,
+    pub counts: [usize; RELATIONS],
 }
 
 /// Whether a run would accept the texts, and what it needs.
 pub fn check(facts: &[u8], query: &[u8]) -> Result<Checked, Refused> {
     let a = c::check(facts, query);
     accepted(a.refusal, a.place)?;
-    let relation = |r: &c::Record| Relation { name: Part::new(r.text, r.offset, r.length), arity: r.arity as usize, first: r.first as usize };
+    let relation = |r: &c::Record| {
+        let name = Part::new(r.text, r.offset, r.length);
+        Relation { name, arity: r.arity as usize, first: r.first as usize, count: r.count as usize }
+    };
     let relations = a.records[..a.relations as usize].iter().map(relation).collect();
     Ok(Checked { universe: a.universe as usize, words: a.words as usize, relations })
 }
@@ -162,7 +172,7 @@ pub fn run(facts: &[u8], query: &[u8], budget: u32, store: &mut [u64], output: &
         1 => Ending::Spent,
         _ => Ending::Full,
     };
-    Ok(Ran { ending, steps: a.steps as u32, written: a.written as usize })
+    Ok(Ran { ending, steps: a.steps as u32, written: a.written as usize, counts: a.counts.map(|n| n as usize) })
 }
 
 /// Where the text of element n stands; none where n is not below the number of elements, or the texts are refused.

@@ -1,6 +1,6 @@
-//! The wrapper over the archive: the worked example, facts saved with CR LF, patterns, printed quotes, refusals, empty and equal texts,
-//! largest sizes.
-use relcalc::{chain, check, element, explain, run, Ending, Explained, Fault, Refusal, Refused, Text, CHAIN_BYTES, STORE_WORDS};
+//! The wrapper over the archive: the worked example, facts saved with CR LF, patterns, printed quotes, counts of tuples, refusals, empty
+//! and equal texts, largest sizes.
+use relcalc::{c, chain, check, element, explain, run, Ending, Explained, Fault, Refusal, Refused, Text, CHAIN_BYTES, RELATIONS, STORE_WORDS};
 
 const FACTS: &[u8] = b"On C10 C5\nOn C5 C2\nOn B7 C10\nHeld B7\n";
 const FACTS_CR_LF: &[u8] = b"On C10 C5\r\nOn C5 C2\r\nOn B7 C10\r\nHeld B7\r\n";
@@ -89,6 +89,11 @@ fn picking(pattern: &str) -> String {
     format!("PRINT @\"{pattern}\"(x);")
 }
 
+/// Counts of the first relations; there are no others.
+fn sixteen(first: &[usize]) -> [usize; RELATIONS] {
+    std::array::from_fn(|i| first.get(i).copied().unwrap_or(0))
+}
+
 fn refused(refusal: Refusal, place: usize) -> Refused {
     Refused { refusal, place }
 }
@@ -104,10 +109,10 @@ fn worked_example() {
     assert_eq!((checked.universe, checked.words), (4, 77));
     let names: Vec<&[u8]> = checked.relations.iter().map(|r| r.name.of(FACTS, QUERY)).collect();
     assert_eq!(names, [&b"On"[..], b"Held", b"Dep"]);
-    assert_eq!(checked.relations.iter().map(|r| (r.arity, r.first)).collect::<Vec<_>>(), [(2, 0), (1, 4), (2, 5)]);
+    assert_eq!(checked.relations.iter().map(|r| (r.arity, r.first, r.count)).collect::<Vec<_>>(), [(2, 0, 3), (1, 4, 1), (2, 5, 0)]);
     let (mut store, mut output) = (vec![7; 79], vec![7; 100]);
     let ran = run(FACTS, QUERY, 1_000_000, &mut store, &mut output).unwrap();
-    assert_eq!((ran.ending, ran.steps), (Ending::Done, 2));
+    assert_eq!((ran.ending, ran.steps, ran.counts), (Ending::Done, 2, sixteen(&[3, 1, 6])));
     assert_eq!(&output[..ran.written], PAGE);
     assert!(output[ran.written..].iter().all(|&b| b == 7));
     assert_eq!(store[..9], [2, 8, 0, 4, 1, 14, 12, 0, 4]);
@@ -243,6 +248,67 @@ fn pages_read_back() {
     let (mut store, mut output) = (vec![0; check(facts, query).unwrap().words], vec![0; facts.len()]);
     let ran = run(facts, query, 1, &mut store, &mut output).unwrap();
     assert_eq!((ran.ending, store[0], &output[..ran.written]), (Ending::Done, 0b111, facts));
+}
+
+/// The counts as loaded.
+fn loaded(facts: &str, query: &str) -> Vec<usize> {
+    check(facts.as_bytes(), query.as_bytes()).unwrap().relations.iter().map(|r| r.count).collect()
+}
+
+/// The counts of a run whose store and output hold something else before it.
+fn counts(query: &str, budget: u32, room: usize) -> [usize; RELATIONS] {
+    run(FACTS, query.as_bytes(), budget, &mut vec![7; STORE_WORDS], &mut vec![7; room]).unwrap().counts
+}
+
+#[test]
+fn counts_as_loaded() {
+    let dep = "Dep(x,y) := TC(On(x,y));";
+    assert_eq!(loaded("On C10 C5\nOn C5 C2\nOn C10 C5\nHeld B7\nHeld B7\n", dep), [2, 1, 0]);
+    assert_eq!(loaded("Held \"B7\"\nHeld B7\nOn B7 \"C2\"\r\nOn \"B7\" C2\nHeld \"B7\"\n", dep), [1, 1, 0]);
+    assert_eq!(loaded("T a b c\nT \"a\" b c\nT a\tb  c \nT c b a\n", "PRINT ENDL;"), [2]);
+    assert_eq!(loaded("P\nP \nP", "PRINT ENDL;"), [1]);
+    assert_eq!(loaded("Held \"\"\nHeld \" \"\nHeld  \"\"\n# Held a\n.\nHeld b\n", "PRINT ENDL;"), [2]);
+    assert_eq!(loaded("", "IF FALSE() { R(\"a\"); } PRINT P();"), [0, 0]);
+    assert_eq!(loaded(&"P\n".repeat(16_384), "PRINT ENDL;"), [1]);
+    assert_eq!(c::check(FACTS, QUERY).records[3..], [c::Record::default(); 13]);
+}
+
+#[test]
+fn counts_at_the_end() {
+    let dep = "Dep(x,y) := TC(On(x,y)); PRINT [\"Dep\"] Dep(x,y);";
+    let ends = [(0, 63, [3, 1, 0]), (1, 63, [3, 1, 6]), (2, 62, [3, 1, 6]), (2, 63, [3, 1, 6])];
+    ends.map(|(budget, room, due)| assert_eq!(counts(dep, budget, room), sixteen(&due)));
+    assert_eq!(counts("PRINT ENDL;", 9, 1), sixteen(&[3, 1]));
+    assert_eq!(counts("Held(\"C2\"); On(\"B7\",x) := FALSE(x);", 9, 0), sixteen(&[2, 2]));
+    assert_eq!(counts("On(\"C2\",\"Z\"); Held(x) := Held(x);", 9, 0), sixteen(&[4, 1]));
+    assert_eq!(counts("On(x,y) := FALSE(x,y); T(x,y,z); P();", 9, 0), sixteen(&[0, 1, 64, 1]));
+    let shrinks = "FOR v IN On(x,_) { On(x,y) := On(x,y) & x != v; Gone(x) := Gone(x) | x = v; PRINT v; }";
+    let steps = [[3, 0], [3, 0], [3, 0], [2, 0], [2, 1], [2, 1], [2, 1], [1, 1], [1, 2], [1, 2], [1, 2], [0, 2], [0, 3], [0, 3]];
+    for (budget, [on, gone]) in steps.into_iter().enumerate() {
+        assert_eq!(counts(shrinks, budget as u32, 99), sixteen(&[on, 1, gone]), "{budget} steps");
+    }
+    // B7, C10 and C5 are printed: 2, 3 and 2 bytes
+    let rooms = [(1, [2, 1, 1]), (4, [1, 1, 2]), (6, [0, 1, 3])];
+    rooms.map(|(room, due)| assert_eq!(counts(shrinks, 99, room), sixteen(&due)));
+    let turns = "WHILE TRUE() { Held(x) := !Held(x); }";
+    assert_eq!((counts(turns, 4, 0), counts(turns, 6, 0)), (sixteen(&[3, 1]), sixteen(&[3, 3])));
+}
+
+#[test]
+fn no_counts_of_refusals() {
+    let texts: [(&[u8], &[u8], u64, u64); 3] =
+        [(FACTS, b"PRINT On(x,y)", 10, 13), (b"Held B7\nHeld B7 C2\n", QUERY, 5, 16), (FACTS, b"Dep(x) := TC(On(x,y));", 12, 0)];
+    for (facts, query, refusal, place) in texts {
+        assert_eq!(c::check(facts, query), c::Checked { refusal, place, ..Default::default() });
+        assert_eq!(c::run(facts, query, 9, &mut [7; 99], &mut [7; 99]), c::Ran { refusal, place, ..Default::default() });
+    }
+    let short = c::run(FACTS, QUERY, 9, &mut [7; 76], &mut [7; 99]);
+    assert_eq!(short, c::Ran { refusal: 14, place: 77, ..Default::default() });
+}
+
+#[test]
+fn sizes_of_the_structs() {
+    assert_eq!((size_of::<c::Record>(), size_of::<c::Checked>(), size_of::<c::Ran>()), (6 * 8, (5 + 6 * 16) * 8, (5 + 16) * 8));
 }
 
 #[test]
@@ -422,9 +488,13 @@ fn largest_sizes() {
     query.resize(16_384, b' ');
     let checked = check(&facts, &query).unwrap();
     assert_eq!((checked.universe, checked.words, checked.relations.len()), (64, STORE_WORDS, 16));
+    assert_eq!(checked.relations.iter().map(|r| r.count).collect::<Vec<_>>(), [[64].as_slice(), &[1; 15]].concat());
     let (mut store, mut output) = (vec![7; STORE_WORDS], vec![7; 32_768]);
     let ran = run(&facts, &query, u32::MAX, &mut store, &mut output).unwrap();
     assert_eq!((ran.ending, ran.steps, ran.written), (Ending::Done, 2, 64 * 8));
+    assert_eq!(ran.counts[..], [[64, 64].as_slice(), &[1; 14]].concat());
+    let ran = run(&facts, b"R0(x,y,z) := FALSE(x,y,z); R15(x,y,z);", 9, &mut store, &mut []).unwrap();
+    assert_eq!(ran.counts[..], [[0].as_slice(), &[1; 14], &[262_144]].concat());
     assert_eq!(element(&facts, &query, 63).unwrap().of(&facts, &query), b"e63");
     facts.push(b'\n');
     assert_eq!(check(&facts, &query), Err(refused(Refusal::FactsTooLong, 32_768)));

@@ -1,14 +1,14 @@
 //! Each call of the archive held to the evaluator's answer, with all memory that it was lent.
 use evaluator::generate::Chain;
 use evaluator::run::Ending;
-use evaluator::{chain, element, is_chain, Accepted, Ran, Refusal};
+use evaluator::{chain, counted, element, forms, is_chain, Accepted, Counts, Ran, Refusal};
 use relcalc::c;
 use std::collections::BTreeMap;
 use std::fmt;
 
 pub type Difference = Result<(), String>;
 
-/// How often each refusal, each ending and each kind of relation read back was met.
+/// How often each refusal, each ending, each way in which counts change and each kind of relation read back was met.
 #[derive(Default)]
 pub struct Met(BTreeMap<String, usize>);
 
@@ -25,10 +25,12 @@ impl Met {
         let run = (1..=14).chain([18]).map(|r| format!("run {r:2}"));
         let chain = (1..=7).chain(15..=17).map(|r| format!("chain {r:2}"));
         let endings = ["run Done", "run Spent", "run Full", "check accepted", "chain found"].map(String::from);
+        let ways = ["as loaded", "larger", "smaller", "larger and smaller"];
+        let counts = ["Done", "Spent", "Full"].into_iter().flat_map(|end| ways.map(|how| format!("{end} with counts {how}")));
         let tuples = (0..=3).flat_map(|n| ["no tuple", "each tuple"].map(|which| format!("read back: {which} of {n}")));
         let pages = ["page of 32767", "page of 32768", "elements in quotes for their texts alone"].map(|what| format!("read back: {what}"));
         let left = ["page too long", "query at its limit", "run not done"].map(|why| format!("not read back: {why}"));
-        let due = check.chain(run).chain(chain).chain(endings).chain(tuples).chain(pages).chain(left);
+        let due = check.chain(run).chain(chain).chain(endings).chain(counts).chain(tuples).chain(pages).chain(left);
         let never: Vec<String> = due.filter(|w| !self.0.contains_key(w)).collect();
         if never.is_empty() { Ok(()) } else { Err(format!("never met: {}", never.join(", "))) }
     }
@@ -73,12 +75,16 @@ pub fn check_differs(facts: &[u8], query: &[u8], accepted: &Result<Accepted, Ref
             let k = w.checked();
             (want.universe, want.words, want.relations) = (k.universe as u64, k.words as u64, k.records.len() as u64);
             for (to, from) in want.records.iter_mut().zip(k.records) {
-                let [text, offset, length, arity, first] = from.map(|n| n as u64);
-                *to = c::Record { text, offset, length, arity, first };
+                let [text, offset, length, arity, first, count] = from.map(|n| n as u64);
+                *to = c::Record { text, offset, length, arity, first, count };
             }
         }
     }
     same("check", c::check(facts, query), want)
+}
+
+pub fn counts(ran: &c::Ran) -> Counts {
+    ran.counts.map(|n| n as usize)
 }
 
 /// Answers the evaluator's run, if the texts and the store are accepted.
@@ -86,21 +92,22 @@ pub fn run_differs(facts: &[u8], query: &[u8], accepted: &Result<Accepted, Refus
     let (mut store, mut output) = (pattern(words), byte_pattern(room));
     let (mut want_store, mut want_output) = (store.clone(), output.clone());
     let mut want = c::Ran::default();
-    let answer = accepted.as_ref().map_err(|r| *r).and_then(|w| Ok((w.checked().words, w.run(budget, words, room)?)));
+    let answer = accepted.as_ref().map_err(|r| *r).and_then(|w| Ok((w, w.run(budget, words, room)?)));
     match &answer {
         Err(r) => {
             met.refused("run", r);
             (want.refusal, want.place) = (r.0 as u64, r.1 as u64);
         }
-        Ok((needed, ran)) => {
+        Ok((w, ran)) => {
             met.add(format!("run {:?}", ran.ending));
+            met.add(forms::counts(w, ran));
             want.ending = match ran.ending {
                 Ending::Done => 0,
                 Ending::Spent => 1,
                 Ending::Full => 2,
             };
-            (want.steps, want.written) = (ran.steps, ran.output.len() as u64);
-            want_store[..*needed].fill(0);
+            (want.steps, want.written, want.counts) = (ran.steps, ran.output.len() as u64, ran.counts.map(|n| n as u64));
+            want_store[..w.checked().words].fill(0);
             want_store[..ran.tables.len()].copy_from_slice(&ran.tables);
             want_output[..ran.output.len()].copy_from_slice(&ran.output);
         }
@@ -110,7 +117,11 @@ pub fn run_differs(facts: &[u8], query: &[u8], accepted: &Result<Accepted, Refus
     same(&lent, found, want)?;
     same_memory(&format!("{lent}: word"), &store, &want_store)?;
     same_memory(&format!("{lent}: byte"), &output, &want_output)?;
-    Ok(answer.ok().map(|(_, ran)| ran))
+    let Ok((w, ran)) = answer else {
+        return Ok(None);
+    };
+    counted::agree(&w.checked(), &store, &counts(&found))?;
+    Ok(Some(ran))
 }
 
 /// All elements, and numbers that are none.

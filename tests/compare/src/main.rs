@@ -1,7 +1,7 @@
 //! Compares the archive with the evaluator, byte for byte: the check, runs, all elements and chains, over generated texts and over the
-//! cases; relations are also printed and read back. The last line is `N passed, M failed`, a text or case each.
+//! cases; relations are also printed and read back, and their tuples counted. The last line is `N passed, M failed`, a text or case each.
 mod calls;
-mod read_back;
+mod properties;
 
 use calls::{chain_differs, check_differs, elements_differ, run_differs, Difference, Met};
 use evaluator::cases::{chain_agrees, check_agrees, element_agrees, holds, run_agrees};
@@ -9,7 +9,7 @@ use evaluator::generate::{texts, Chain, Texts};
 use evaluator::json::{read, Json};
 use evaluator::run::Ending;
 use evaluator::{accept, either_way, Accepted, Refusal};
-use read_back::read_back_differs;
+use properties::{counted_differs, read_back_differs};
 
 /// Differences that are shown whole.
 const SHOWN: usize = 10;
@@ -69,6 +69,7 @@ fn text_differs(t: &Texts, met: &mut Met) -> Difference {
     }
     runs_differ(t, &accepted, met)?;
     read_back_differs(t, &accepted, met)?;
+    counted_differs(t, &accepted)?;
     t.chains.iter().try_for_each(|c| chain_differs(&t.facts, c, met))
 }
 
@@ -85,7 +86,9 @@ fn case_differs(c: &Json, met: &mut Met) -> Difference {
     let number = |key: &str| c.get(key).number() as usize;
     let (budget, room) = (number("budget") as u32, number("out"));
     run_differs(&facts, &query, &accepted, budget, number("store"), room, met)?;
-    read_back_differs(&Texts { facts, query, budget, spare: 0, room, elements: true, chains: Vec::new() }, &accepted, met)
+    let t = Texts { facts, query, budget, spare: 0, room, elements: true, chains: Vec::new() };
+    read_back_differs(&t, &accepted, met)?;
+    counted_differs(&t, &accepted)
 }
 
 fn element_case_differs(c: &Json) -> Difference {

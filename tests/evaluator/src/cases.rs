@@ -4,7 +4,7 @@ use crate::run::Ending;
 use crate::{accept, chain, check, element, is_chain, run, Refusal};
 
 /// Papers 1 to this one of document 02 are in force.
-const PAPERS: u64 = 3;
+const PAPERS: u64 = 4;
 
 /// Whether a case holds now: one of document 02 says after which papers it does.
 pub fn holds(c: &Json) -> bool {
@@ -21,16 +21,18 @@ fn text_number(j: &Json) -> usize {
     if j.text() == "facts" { 0 } else { 1 }
 }
 
+fn numbers(l: &[Json]) -> Vec<usize> {
+    l.iter().map(|n| n.number() as usize).collect()
+}
+
 pub fn check_agrees(c: &Json, facts: &[u8], query: &[u8]) -> bool {
     let want = c.get("check");
     match check(facts, query) {
         Err(r) => refusal(want) == Some(r),
         Ok(k) => {
-            let records: Vec<[usize; 5]> = want.get("relations").list().iter().map(|r| {
-                let r = r.list();
-                [text_number(&r[0]), r[1].number() as usize, r[2].number() as usize, r[3].number() as usize, r[4].number() as usize]
-            }).collect();
-            refusal(want).is_none() && k.universe == want.get("U").number() as usize && k.words == want.get("words").number() as usize && k.records == records
+            let record = |r: &Json| [vec![text_number(&r.list()[0])], numbers(&r.list()[1..])].concat();
+            let records: Vec<Vec<usize>> = want.get("relations").list().iter().map(record).collect();
+            refusal(want).is_none() && k.universe == want.get("U").number() as usize && k.words == want.get("words").number() as usize && records == k.records
         }
     }
 }
@@ -46,7 +48,8 @@ pub fn run_agrees(c: &Json, facts: &[u8], query: &[u8]) -> bool {
                 Ending::Full => "full",
             };
             let tables: Vec<u64> = want.get("tables").list().iter().map(Json::number).collect();
-            refusal(want).is_none() && ending == want.get("ending").text() && k.steps == want.get("steps").number() && k.output == want.get("output").bytes() && k.tables == tables
+            let counts = numbers(want.get("counts").list());
+            refusal(want).is_none() && ending == want.get("ending").text() && k.steps == want.get("steps").number() && k.output == want.get("output").bytes() && k.tables == tables && counts == k.counts
         }
     }
 }
@@ -61,8 +64,7 @@ pub fn chain_agrees(c: &Json) -> bool {
     match chain(&c.get("facts").bytes(), &c.get("rel").bytes(), &c.get("a").bytes(), &c.get("b").bytes(), room) {
         Err(r) => refusal(c) == Some(r),
         Ok((pairs, a, b)) => {
-            let one: Vec<usize> = c.get("one_answer").list().iter().map(|n| n.number() as usize).collect();
-            is_chain(&pairs, a, b, &one)
+            is_chain(&pairs, a, b, &numbers(c.get("one_answer").list()))
         }
     }
 }

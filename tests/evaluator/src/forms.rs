@@ -1,12 +1,14 @@
-//! Which forms the expressions, patterns, statements and printed elements of accepted texts have, how texts with a malformed pattern are
-//! refused, and where bytes 13 stand in texts, by name: what the tally counts.
-use crate::facts::{is_legal, needs_quotes};
+//! Which forms the expressions, patterns, statements, repeated facts and printed elements of accepted texts have, how large relations
+//! become, how texts with a malformed pattern are refused, and where bytes 13 stand in texts, by name: what the tally counts.
+use crate::facts::{is_legal, needs_quotes, Fact};
 use crate::names::left_strings;
 use crate::parse::{Expr, Item, Stmt, Term};
 use crate::pattern::{self, Pattern};
 use crate::picked::SPECIAL;
 use crate::tokens::{self, Kind, Token};
 use crate::{accept, pattern_strings, Accepted, Ran};
+use std::cmp::Ordering;
+use std::collections::btree_map::{BTreeMap, Entry};
 use std::collections::BTreeSet;
 
 pub struct Forms<'a> {
@@ -203,8 +205,47 @@ pub fn of(texts: &Accepted) -> Vec<String> {
         forms.add("text with patterns".into());
     }
     left_strings(&texts.program).iter().for_each(|t| forms.add(format!("left-hand string {}", element(texts, &t.text))));
+    forms.found.extend(repeated(&texts.facts.facts));
     forms.statements(&texts.program);
     forms.found
+}
+
+/// Facts that give a tuple again, by how this one and the first one put elements in quotes.
+fn repeated(facts: &[Fact]) -> Vec<String> {
+    let values = |f: &Fact| f.elements.iter().map(|e| e.value.clone()).collect::<Vec<_>>();
+    let how = |f: &Fact| if f.elements.iter().any(|e| e.quoted) { "quoted" } else { "bare" };
+    let mut firsts: BTreeMap<_, &str> = BTreeMap::new();
+    let mut found = Vec::new();
+    for f in facts {
+        match firsts.entry((&f.name, values(f))) {
+            Entry::Vacant(place) => drop(place.insert(how(f))),
+            Entry::Occupied(first) => found.push(format!("fact of {} repeated: {}, then {}", f.elements.len(), first.get(), how(f))),
+        }
+    }
+    found
+}
+
+/// How the counts at a run's end differ from those as loaded, by its ending.
+pub fn counts(w: &Accepted, ran: &Ran) -> String {
+    let records = w.checked().records;
+    let differ = |how: Ordering| records.iter().zip(ran.counts).any(|([.., loaded], end)| end.cmp(loaded) == how);
+    let how = match (differ(Ordering::Greater), differ(Ordering::Less)) {
+        (true, true) => "larger and smaller",
+        (true, false) => "larger",
+        (false, true) => "smaller",
+        _ => "as loaded",
+    };
+    format!("{:?} with counts {how}", ran.ending)
+}
+
+/// How the assignments of a run changed the size of each relation that they were to.
+pub fn changes(ran: &Ran) -> Vec<String> {
+    let word = |how: &Ordering| match how {
+        Ordering::Less => "smaller",
+        Ordering::Equal => "as large",
+        Ordering::Greater => "larger",
+    };
+    ran.changes.values().map(|all| format!("relation made {}", all.iter().map(word).collect::<Vec<_>>().join(", "))).collect()
 }
 
 /// What decides whether an element is printed in quotes: its text, and how facts give it.

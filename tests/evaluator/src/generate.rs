@@ -1,7 +1,8 @@
 //! Texts for comparisons: facts and queries that are mostly accepted, the same with damage, texts with several faults, and texts at each
 //! limit of document 01; some of them saved with CR LF, as Paper 1 of document 02 allows for facts, or with bytes 13 elsewhere, some with
-//! patterns, as Paper 2 adds them, and some that print what left-hand sides enter, as Paper 3 wants it.
-use crate::{accept, entered, picked, saved, shapes};
+//! patterns, as Paper 2 adds them, some that print what left-hand sides enter, as Paper 3 wants it, and some whose relations grow and
+//! shrink, for the counts of Paper 4.
+use crate::{accept, entered, picked, resized, saved, shapes};
 
 /// A small generator of pseudo-random numbers: the same seed gives the same texts on every machine.
 pub struct Random(u64);
@@ -391,7 +392,7 @@ fn repeated(n: usize, f: impl Fn(usize) -> String) -> String {
 }
 
 /// The limits of documents 01 and 02 that texts can meet.
-pub const LIMITS: usize = 51;
+pub const LIMITS: usize = 54;
 
 /// Texts one below a limit (past 0), at it (1) or one past it (2). Where a document asks for an exact number, that is the middle one.
 pub fn limit(kind: usize, past: usize) -> (Vec<u8>, Vec<u8>) {
@@ -402,6 +403,7 @@ pub fn limit(kind: usize, past: usize) -> (Vec<u8>, Vec<u8>) {
     let few = "On C10 C5\nOn C5 C2\nOn B7 C10\nHeld B7\n".to_string();
     let single = "Held B7\n".to_string();
     let two_bytes = |count: usize| repeated(count, |i| format!("A {i:02}\n"));
+    let one_byte = |i: usize| (b'0' + i as u8) as char;
     let (facts, query) = match kind {
         0 => (format!("{:#<width$}", "On a b\n#", width = n(32768)), plain),
         1 => (format!("Held {}\n", "e".repeat(n(32))), plain),
@@ -455,6 +457,10 @@ pub fn limit(kind: usize, past: usize) -> (Vec<u8>, Vec<u8>) {
         47 => (two_bytes(63), format!("On(x,y) := A(x) & A(y) & (x < \"57\" | x = \"57\" & y < \"48\"); On(\"{:>width$}\",\"00\");", "s", width = n(8))),
         48 => (two_bytes(n(63)), "S(\"\",x) := TRUE(x); S(x,y) := TRUE(x,y);".into()),
         49 => (repeated(n(16), |i| format!("A {}\n", (b'a' + i as u8) as char)), "T(x,y,z) := TRUE(x,y,z);".into()),
+        // a fact as often as facts have room for it, each pair in falling order, and each tuple of three columns
+        50 => ("P\n".repeat(16385)[..n(32768)].into(), "PRINT [\"P\"] P(); P() := FALSE();".into()),
+        51 => (repeated(n(64) * n(64), |i| format!("On {} {}\n", one_byte(n(64) - 1 - i / n(64)), one_byte(n(64) - 1 - i % n(64)))), "On(x,y) := On(x,y) & x < y;".into()),
+        52 => (repeated(n(64), |i| format!("A e{i}\n")), "T(x,y,z); T(\"e0\",x,y) := FALSE(x,y);".into()),
         _ => {
             let tables = repeated(16, |r| format!("R{r} e0 e0 e0\n"));
             (format!("{tables}{}", repeated(n(64), |i| format!("R0 e{i} e{} e0\n", (i + 1) % 62))), "R1(x,y,z) := R0(x,z,y); PRINT R1(x,y,z);".into())
@@ -531,8 +537,8 @@ fn fewer_facts(facts: &mut Vec<u8>, query: &[u8]) -> u64 {
     }
 }
 
-/// The comparison of this number: first each limit below, at and above it, then limits, shapes, strings entered and printed, and random
-/// texts, some damaged and some saved with CR LF.
+/// The comparison of this number: first each limit below, at and above it, then limits, shapes, strings entered and printed, relations that
+/// grow and shrink, and random texts, some damaged and some saved with CR LF.
 pub fn texts(number: u64) -> Texts {
     let r = &mut Random::new(number);
     let limits = 3 * LIMITS as u64;
@@ -541,6 +547,9 @@ pub fn texts(number: u64) -> Texts {
     }
     if number >= limits && r.one_in(8) {
         return entering(r);
+    }
+    if number >= limits && r.one_in(8) {
+        return resizing(r);
     }
     let (mut facts, mut query) = match number {
         k if k < limits => limit((k / 3) as usize, (k % 3) as usize),
@@ -598,4 +607,15 @@ fn entering(r: &mut Random) -> Texts {
     let room = if r.one_in(3) { r.below(60) } else { 4000 };
     let chains = chains(r, &facts);
     Texts { facts, query, budget, spare: r.below(4) as i64, room, elements: true, chains }
+}
+
+/// Relations that grow and shrink, in runs that end at any step, by the budget, by the buffer or done.
+fn resizing(r: &mut Random) -> Texts {
+    let (facts, query) = resized::texts(r);
+    let facts = if r.one_in(8) { saved::facts(r, &facts) } else { facts };
+    let steps = *r.pick(&[0, 1, 2, 3, 4, 5, 6, 7, 8, 9, 10, 12, 15, 20, 40, 100]);
+    let budget = steps.min(8 * NODES / nodes(&facts, &query)) as u32;
+    let room = if r.one_in(2) { r.below(40) } else { 4000 };
+    let spare = if r.one_in(12) { -1 } else { r.below(4) as i64 };
+    Texts { facts, query, budget, spare, room, elements: r.one_in(8), chains: Vec::new() }
 }

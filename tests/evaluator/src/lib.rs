@@ -1,6 +1,8 @@
 //! An evaluator of RML over RSF for the tests: written from documents 01 and 02 alone, with sets of tuples and a big-step run, so that it
 //! shares no fault with the engine or its definition.
+pub mod calculator;
 pub mod cases;
+pub mod counted;
 pub mod either_way;
 pub mod entered;
 pub mod facts;
@@ -14,6 +16,7 @@ pub mod parse;
 pub mod pattern;
 pub mod picked;
 pub mod read_back;
+pub mod resized;
 pub mod run;
 pub mod saved;
 pub mod shapes;
@@ -24,9 +27,10 @@ use meaning::{Row, Set, World};
 use names::Names;
 use parse::Stmt;
 use pattern::Pattern;
-use run::{Ending, Printed, Run};
+use run::{Changes, Ending, Printed, Run};
 use std::cell::OnceCell;
 use std::collections::{BTreeMap, BTreeSet};
+use std::ops::Range;
 use tokens::{Kind, Token};
 
 /// A row of document 01's table and its place.
@@ -78,8 +82,8 @@ pub fn accept(facts_text: &[u8], query: &[u8]) -> Result<Accepted, Refusal> {
     Ok(Accepted { facts, program, patterns, names, universe: universe.into_iter().collect(), matching: OnceCell::new() })
 }
 
-/// A relation's record: text, offset, length, arity, first word.
-pub type Record = [usize; 5];
+/// A relation's record: text, offset, length, arity, first word, number of tuples as loaded.
+pub type Record = [usize; 6];
 
 #[derive(PartialEq, Debug)]
 pub struct Checked {
@@ -88,13 +92,24 @@ pub struct Checked {
     pub records: Vec<Record>,
 }
 
+impl Checked {
+    /// Where a relation's words stand in the store.
+    pub fn table(&self, relation: usize) -> Range<usize> {
+        let [_, _, _, arity, first, _] = self.records[relation];
+        first..first + table_words(self.universe, arity)
+    }
+}
+
+/// A number for each relation that two texts may have, in store order.
+pub type Counts = [usize; 16];
+
 impl Accepted {
     pub fn checked(&self) -> Checked {
         let u = self.universe.len();
         let mut records = Vec::new();
         let (mut first, mut largest) = (0, 0);
-        for r in &self.names.relations {
-            records.push([r.text, r.at, r.name.len(), r.arity, first]);
+        for (r, count) in self.names.relations.iter().zip(self.counts(&self.loaded())) {
+            records.push([r.text, r.at, r.name.len(), r.arity, first, count]);
             first += table_words(u, r.arity);
             largest = largest.max(table_words(u, r.arity));
         }
@@ -110,6 +125,12 @@ impl Accepted {
             tables.get_mut(&f.name).unwrap().insert(tuple);
         }
         tables
+    }
+    /// The sizes of the relations' sets; "unused records all zero".
+    fn counts(&self, tables: &BTreeMap<Vec<u8>, Set>) -> Counts {
+        let mut counts = Counts::default();
+        self.names.relations.iter().zip(&mut counts).for_each(|(r, count)| *count = tables[&r.name].len());
+        counts
     }
     fn matching(&self) -> BTreeMap<Vec<u8>, Set> {
         let elements = |p: &Pattern| (0..self.universe.len()).filter(|&a| p.matches(&self.universe[a])).map(|a| Row::from_iter([a])).collect();
@@ -135,8 +156,11 @@ pub struct Ran {
     /// the output's length after each PRINT
     pub pages: Vec<usize>,
     pub printed: Printed,
+    pub changes: Changes,
     /// the relations' words, in store order
     pub tables: Vec<u64>,
+    /// how many tuples each relation has
+    pub counts: Counts,
 }
 
 pub fn check(facts: &[u8], query: &[u8]) -> Result<Checked, Refusal> {
@@ -157,10 +181,12 @@ impl Accepted {
         let world = World { universe: &self.universe, names: &self.names, matching, tables: self.loaded(), variables: BTreeMap::new() };
         let quoted: BTreeSet<usize> =
             self.facts.facts.iter().flat_map(|f| &f.elements).filter(|e| e.quoted).map(|e| self.number(&e.value)).collect();
-        let mut run = Run { world, quoted, budget: budget as u64, room, steps: 0, output: Vec::new(), pages: Vec::new(), printed: Printed::default() };
+        let mut run = Run::new(world, quoted, budget, room);
         let ending = run.program(&self.program);
         let tables = self.names.relations.iter().flat_map(|r| self.words(&run.world.tables[&r.name], r.arity)).collect();
-        Ok(Ran { ending, steps: run.steps, output: run.output, pages: run.pages, printed: run.printed, tables })
+        let counts = self.counts(&run.world.tables);
+        let Run { steps, output, pages, printed, changes, .. } = run;
+        Ok(Ran { ending, steps, output, pages, printed, changes, tables, counts })
     }
     fn element(&self, n: usize) -> [usize; 3] {
         let Some(text) = self.universe.get(n) else {

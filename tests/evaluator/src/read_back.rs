@@ -1,11 +1,12 @@
 //! Paper 3 of document 02 as a property, of the evaluator as of the archive: "a relation printed with its own name in front, on a page of
 //! at most 32,768 bytes, and read back as facts has the same tuples of texts; an empty relation prints nothing and counts as empty when
 //! absent."
+use crate::calculator::{refused, same, Answer, Calculator};
 use crate::facts::{needs_quotes, Relation};
 use crate::generate::Texts;
 use crate::names::Names;
 use crate::run::Ending;
-use crate::{accept, table_words, tokens, Accepted, Checked, Ran, Refusal};
+use crate::{tokens, Accepted};
 use std::collections::BTreeSet;
 
 /// The longest page that is spoken of.
@@ -13,46 +14,16 @@ const PAGE: usize = 32768;
 /// Bytes lent to a run: enough for the pages of all its relations, most times.
 const ROOM: usize = 1 << 22;
 
-/// What a check answers, then a run with as much store as it needs.
-pub struct Answer {
-    pub checked: Checked,
-    pub ending: Ending,
-    pub steps: u64,
-    pub output: Vec<u8>,
-    /// the relations' words, and perhaps more
-    pub store: Vec<u64>,
-}
-
-pub trait Calculator {
-    fn answer(&self, facts: &[u8], query: &[u8], budget: u32, room: usize) -> Result<Answer, Refusal>;
-    /// The texts of all elements by number, of which there are so many.
-    fn elements(&self, facts: &[u8], query: &[u8], count: usize) -> Vec<Vec<u8>>;
-}
-
-pub struct Evaluator;
-
-impl Calculator for Evaluator {
-    fn answer(&self, facts: &[u8], query: &[u8], budget: u32, room: usize) -> Result<Answer, Refusal> {
-        let accepted = accept(facts, query)?;
-        let checked = accepted.checked();
-        let Ran { ending, steps, output, tables: store, .. } = accepted.run(budget, checked.words, room)?;
-        Ok(Answer { checked, ending, steps, output, store })
-    }
-    fn elements(&self, facts: &[u8], query: &[u8], _: usize) -> Vec<Vec<u8>> {
-        accept(facts, query).map_or(Vec::new(), |w| w.universe)
-    }
-}
-
 /// A relation's tuples by the texts of their elements.
 type Tuples = BTreeSet<Vec<Vec<u8>>>;
 
 impl Answer {
     /// "Tuple (a) is bit a; (a,b) is bit b of word a; (a,b,c) is bit c of word U × a + b; the empty tuple is bit 0."
     fn tuples(&self, relation: usize, elements: &[Vec<u8>]) -> Tuples {
-        let [.., arity, first] = self.checked.records[relation];
+        let [_, _, _, arity, ..] = self.checked.records[relation];
         let u = self.checked.universe;
         let mut found = Tuples::new();
-        for (n, word) in self.store[first..first + table_words(u, arity)].iter().enumerate() {
+        for (n, word) in self.store[self.checked.table(relation)].iter().enumerate() {
             for bit in (0..64).filter(|bit| word >> bit & 1 == 1) {
                 let numbers = [n / u.max(1), n % u.max(1), bit];
                 found.insert(numbers[3 - arity..].iter().map(|&a| elements[a].clone()).collect());
@@ -60,10 +31,6 @@ impl Answer {
         }
         found
     }
-}
-
-fn same<T: PartialEq>(what: &str, found: T, due: T) -> Result<(), String> {
-    if found == due { Ok(()) } else { Err(format!("{what} differs")) }
 }
 
 /// `PRINT ["R"] R(x0,x1,..);`: an attribute for each column, by a name that has no other kind.
@@ -100,6 +67,7 @@ fn read(c: &impl Calculator, page: &[u8], print: &str, tuples: &Tuples) -> Resul
     let back = c.answer(page, print.as_bytes(), 1, PAGE).map_err(refused)?;
     let elements = c.elements(page, print.as_bytes(), back.checked.universe);
     same("what is read", &back.tuples(0, &elements), tuples)?;
+    same("its count", back.checked.records.iter().map(|[.., count]| *count).collect(), vec![tuples.len()])?;
     same("the universe", back.checked.universe, tuples.iter().flatten().collect::<BTreeSet<_>>().len())?;
     same("what is printed again", (back.ending, &back.output[..]), (Ending::Done, page))
 }
@@ -121,10 +89,6 @@ fn met(w: &Accepted, r: &Relation, tuples: &Tuples, page: &[u8]) -> Vec<String> 
     found
 }
 
-fn refused((row, at): Refusal) -> String {
-    format!("refused {row} {at}")
-}
-
 /// The pages of all relations, printed by a query that goes on behind its end; none where they are too long together.
 fn printed(c: &impl Calculator, t: &Texts, query: &[u8], end: &Answer, count: usize) -> Result<Option<Vec<Vec<u8>>>, String> {
     let (steps, before) = (end.steps + 2 * count as u64, end.output.len());
@@ -132,7 +96,8 @@ fn printed(c: &impl Calculator, t: &Texts, query: &[u8], end: &Answer, count: us
     if answer.ending == Ending::Full {
         return Ok(None);
     }
-    same("the run with PRINTs", (answer.ending, answer.steps, &answer.store), (Ending::Done, steps, &end.store))?;
+    let (found, due) = ((answer.ending, answer.steps, &answer.store, answer.counts), (Ending::Done, steps, &end.store, end.counts));
+    same("the run with PRINTs", found, due)?;
     same("what it prints before them", answer.output.get(..before), Some(&end.output[..]))?;
     let pages = pages(&answer.output[before..]);
     same("the number of pages", pages.len(), count)?;

@@ -2,7 +2,8 @@
 use crate::facts::needs_quotes;
 use crate::meaning::{Result as Rows, Row, Set, World};
 use crate::parse::{Expr, Item, Stmt, Term};
-use std::collections::BTreeSet;
+use std::cmp::Ordering;
+use std::collections::{BTreeMap, BTreeSet};
 
 #[derive(Clone, Copy, PartialEq, Debug)]
 pub enum Ending {
@@ -27,6 +28,9 @@ impl Printed {
     }
 }
 
+/// By a relation's name, how assignments changed its size.
+pub type Changes = BTreeMap<Vec<u8>, BTreeSet<Ordering>>;
+
 /// What one PRINT adds to the output.
 #[derive(Default)]
 struct Page {
@@ -44,9 +48,17 @@ pub struct Run<'a> {
     pub output: Vec<u8>,
     pub pages: Vec<usize>,
     pub printed: Printed,
+    pub changes: Changes,
 }
 
 type Res = Result<(), Ending>;
+
+impl<'a> Run<'a> {
+    pub fn new(world: World<'a>, quoted: BTreeSet<usize>, budget: u32, room: usize) -> Run<'a> {
+        let (budget, steps) = (budget as u64, 0);
+        Run { world, quoted, budget, room, steps, output: Vec::new(), pages: Vec::new(), printed: Printed::default(), changes: Changes::new() }
+    }
+}
 
 impl Run<'_> {
     fn test_budget(&self) -> Res {
@@ -64,6 +76,7 @@ impl Run<'_> {
         let old = &self.world.tables[name];
         let kept = old.iter().copied().filter(|t| self.differs(left, t));
         let new: Set = given.rows.iter().map(|row| self.tuple(&given, left, row)).chain(kept).collect();
+        self.changes.entry(name.to_vec()).or_default().insert(new.len().cmp(&old.len()));
         self.world.tables.insert(name.to_vec(), new);
     }
     /// What the left-hand terms stand for under a row of the result.

@@ -43,7 +43,7 @@ enum-known-a c = search needs
 add-fact-requires : tie.Need-add-fact-requires Inv-loop μ-loop
 add-fact-requires c κs =
     let t = subst (NextIs (c .before .before .before .before .before .before .before .before .before .before .args .facts .now) (c .before .before .before .before .before .loop .at)) (c .before .before .a .given .1) (c .before .before .before .before .next-fact .ensures) in
-    (t .3, c .before .before .before .before .before .before .before .before .before .before .pre, t .4)
+    (omega (arith, t .3), c .before .before .before .before .before .before .before .before .before .before .pre, t .4)
 
 loop-less : tie.Need-loop-less Inv-loop μ-loop
 loop-less c = let t = subst (NextIs (c .before .before .before .before .before .before .before .before .before .before .before .before .before .args .facts .now) (c .before .before .before .before .before .before .before .before .loop .at)) (c .before .before .before .before .before .a .given .1) (c .before .before .before .before .before .before .before .next-fact .ensures) in omega (arith, t .1, t .2, t .3)

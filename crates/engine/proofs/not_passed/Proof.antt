@@ -1,7 +1,7 @@
 use mathlib.Core.Path.{refl}
 use borrow.Author.Needs.{needs}
 use denote.Ref.{now}
-use Rattle.engine.proofs.Checks.{nothing, check-refused}
+use Rattle.engine.proofs.Checks.{nothing, none-counted, check-refused}
 use Rattle.engine.proofs.not_passed.Statement.{statement}
 use Rattle.engine.proofs.not_passed.Tie as tie
 
@@ -17,7 +17,7 @@ records-requires c κs = search needs
 returns : tie.Need-returns
 returns c =
     let s = c .before .before .before .before in
-    λ e. check-refused (now (s .args .facts)) (now (s .args .query)) (s .args .q) _ (c .records .ensures nothing refl refl) e
+    λ e. check-refused (now (s .args .facts)) (now (s .args .query)) (s .args .q) _ (c .records .ensures nothing refl refl none-counted) e
 
 pub not-passed-spec : {M : Type 1} → statement M
 not-passed-spec =

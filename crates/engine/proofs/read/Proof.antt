@@ -1,7 +1,6 @@
 use mathlib.Core.Path.{refl, sym}
 use native.Mathlib.Omega.{arith}
 use lib.Seq.{length-take-le}
-use Rattle.coding.proofs.Passing.{zeros-below}
 use Rattle.acceptance.proofs.Answers.{taken, not-taken}
 use Rattle.engine.specs.Given.{prepared, refuses}
 use Rattle.engine.proofs.Begins.{few-sized, fits-so}
@@ -21,11 +20,8 @@ slice-aggregate-accept-3 c = search needs
 slice-aggregate-accept-4 : tie.Need-slice-aggregate-accept-4
 slice-aggregate-accept-4 c = search needs
 
-slice-aggregate-accept-5 : tie.Need-slice-aggregate-accept-5
-slice-aggregate-accept-5 c = search needs
-
 accept-requires : tie.Need-accept-requires
-accept-requires c κs = ((search needs, search needs), ((refl, refl), ((refl, (refl, refl)), zeros-below 2048 4096 (omega arith))))
+accept-requires c κs = ((search needs, search needs), ((refl, refl), ((refl, (refl, search needs)), c .before .before .before .before .before .before .before .before .before .before .before .before .pre .1)))
 
 enum-known-q : tie.Need-enum-known-q
 enum-known-q c = search needs
@@ -34,16 +30,16 @@ enum-known-s : tie.Need-enum-known-s
 enum-known-s c = search needs
 
 array-share-prefix-tokens : tie.Need-array-share-prefix-tokens
-array-share-prefix-tokens c = let t = taken _ _ _ _ _ _ _ _ (c .before .before .before .before .before .before .before .before .before .before .before .before .accept .ensures) _ (c .before .s .given .1) in t .sized .tokens-inside
+array-share-prefix-tokens c = let t = taken _ _ _ _ _ _ _ _ (c .before .before .before .before .before .before .before .before .before .before .before .before .before .accept .ensures) _ (c .before .s .given .1) in t .sized .tokens-inside
 
 slice-aggregate-translate : tie.Need-slice-aggregate-translate
-slice-aggregate-translate c = let t = taken _ _ _ _ _ _ _ _ (c .before .before .before .before .before .before .before .before .before .before .before .before .before .accept .ensures) _ (c .before .before .s .given .1) in sym (length-take-le _ _ (t .sized .tokens-inside))
+slice-aggregate-translate c = let t = taken _ _ _ _ _ _ _ _ (c .before .before .before .before .before .before .before .before .before .before .before .before .before .before .accept .ensures) _ (c .before .before .s .given .1) in sym (length-take-le _ _ (t .sized .tokens-inside))
 
 array-share-prefix-words : tie.Need-array-share-prefix-words
-array-share-prefix-words c = let t = taken _ _ _ _ _ _ _ _ (c .before .before .before .before .before .before .before .before .before .before .before .before .before .accept .ensures) _ (c .before .before .s .given .1) in t .sized .words-inside
+array-share-prefix-words c = let t = taken _ _ _ _ _ _ _ _ (c .before .before .before .before .before .before .before .before .before .before .before .before .before .before .accept .ensures) _ (c .before .before .s .given .1) in t .sized .words-inside
 
 slice-aggregate-translate-2 : tie.Need-slice-aggregate-translate-2
-slice-aggregate-translate-2 c = let t = taken _ _ _ _ _ _ _ _ (c .before .before .before .before .before .before .before .before .before .before .before .before .before .before .accept .ensures) _ (c .before .before .before .s .given .1) in sym (length-take-le _ _ (t .sized .words-inside))
+slice-aggregate-translate-2 c = let t = taken _ _ _ _ _ _ _ _ (c .before .before .before .before .before .before .before .before .before .before .before .before .before .before .before .accept .ensures) _ (c .before .before .before .s .given .1) in sym (length-take-le _ _ (t .sized .words-inside))
 
 slice-aggregate-translate-3 : tie.Need-slice-aggregate-translate-3
 slice-aggregate-translate-3 c = search needs
@@ -52,16 +48,16 @@ slice-aggregate-translate-4 : tie.Need-slice-aggregate-translate-4
 slice-aggregate-translate-4 c = search needs
 
 slice-reshare-prefix-translate : tie.Need-slice-reshare-prefix-translate
-slice-reshare-prefix-translate c = let t = taken _ _ _ _ _ _ _ _ (c .before .before .before .before .before .before .before .before .before .before .before .before .before .before .before .before .accept .ensures) _ (c .before .before .before .before .before .s .given .1) in t .sized .places-inside
+slice-reshare-prefix-translate c = let t = taken _ _ _ _ _ _ _ _ (c .before .before .before .before .before .before .before .before .before .before .before .before .before .before .before .before .before .accept .ensures) _ (c .before .before .before .before .before .s .given .1) in t .sized .places-inside
 
 slice-aggregate-translate-5 : tie.Need-slice-aggregate-translate-5
-slice-aggregate-translate-5 c = let t = taken _ _ _ _ _ _ _ _ (c .before .before .before .before .before .before .before .before .before .before .before .before .before .before .before .before .before .accept .ensures) _ (c .before .before .before .before .before .before .s .given .1) in sym (length-take-le _ _ (t .sized .places-inside))
+slice-aggregate-translate-5 c = let t = taken _ _ _ _ _ _ _ _ (c .before .before .before .before .before .before .before .before .before .before .before .before .before .before .before .before .before .before .accept .ensures) _ (c .before .before .before .before .before .before .s .given .1) in sym (length-take-le _ _ (t .sized .places-inside))
 
 cast-translate : tie.Need-cast-translate
-cast-translate c = let t = taken _ _ _ _ _ _ _ _ (c .before .before .before .before .before .before .before .before .before .before .before .before .before .before .before .before .before .before .accept .ensures) _ (c .before .before .before .before .before .before .before .s .given .1) in omega (arith, few-sized _ _ _ _ _ _ _ _ _ (t .w) (t .sized) .0)
+cast-translate c = let t = taken _ _ _ _ _ _ _ _ (c .before .before .before .before .before .before .before .before .before .before .before .before .before .before .before .before .before .before .before .accept .ensures) _ (c .before .before .before .before .before .before .before .s .given .1) in omega (arith, few-sized _ _ _ _ _ _ _ _ _ (t .w) (t .sized) .0)
 
 translate-requires : tie.Need-translate-requires
-translate-requires c κs = let t = taken _ _ _ _ _ _ _ _ (c .before .before .before .before .before .before .before .before .before .before .before .before .before .before .before .before .before .before .before .accept .ensures) _ (c .before .before .before .before .before .before .before .before .s .given .1) in (t .sized .reading .few-tokens, t .sized .reading .few-words, c .before .before .before .before .before .before .before .before .before .before .before .before .before .before .before .before .before .before .before .before .before .before .before .before .before .before .before .before .before .before .before .before .pre .2)
+translate-requires c κs = let t = taken _ _ _ _ _ _ _ _ (c .before .before .before .before .before .before .before .before .before .before .before .before .before .before .before .before .before .before .before .before .accept .ensures) _ (c .before .before .before .before .before .before .before .before .s .given .1) in (t .sized .reading .few-tokens, t .sized .reading .few-words, omega (arith, c .before .before .before .before .before .before .before .before .before .before .before .before .before .before .before .before .before .before .before .before .before .before .before .before .before .before .before .before .before .before .before .before .before .pre .0))
 
 same-length : tie.Need-same-length
 same-length c = search needs
@@ -69,11 +65,11 @@ same-length c = search needs
 same-length-2 : tie.Need-same-length-2
 same-length-2 c = search needs
 
-returns : tie.Need-returns
-returns c = refuses (not-taken _ _ _ _ _ _ _ _ (c .before .before .before .before .before .before .before .before .before .before .before .before .accept .ensures) _ (c .before .q .given .1))
-
 same-length-3 : tie.Need-same-length-3
 same-length-3 c = search needs
+
+returns : tie.Need-returns
+returns c = refuses (not-taken _ _ _ _ _ _ _ _ (c .before .before .before .before .before .before .before .before .before .before .before .before .before .accept .ensures) _ (c .before .q .given .1))
 
 same-length-4 : tie.Need-same-length-4
 same-length-4 c = search needs
@@ -81,11 +77,14 @@ same-length-4 c = search needs
 same-length-5 : tie.Need-same-length-5
 same-length-5 c = search needs
 
+same-length-6 : tie.Need-same-length-6
+same-length-6 c = search needs
+
 returns-2 : tie.Need-returns-2
 returns-2 c =
-    let t = taken _ _ _ _ _ _ _ _ (c .before .before .before .before .before .before .before .before .before .before .before .before .before .before .before .before .before .before .before .before .before .before .accept .ensures) _ (c .before .before .before .before .before .before .before .before .before .before .before .s .given .1) in
+    let t = taken _ _ _ _ _ _ _ _ (c .before .before .before .before .before .before .before .before .before .before .before .before .before .before .before .before .before .before .before .before .before .before .before .accept .ensures) _ (c .before .before .before .before .before .before .before .before .before .before .before .s .given .1) in
     prepared (t .w)
-    (fits-so _ _ _ _ _ _ _ _ _ (t .w) (t .sized) _ refl _ (omega (arith, few-sized _ _ _ _ _ _ _ _ _ (t .w) (t .sized) .1, same-length-3 c, same-length-4 c, same-length-5 c, c .before .before .before .before .before .before .before .before .before .before .before .before .before .before .before .before .before .before .before .before .before .before .before .before .before .before .before .before .before .before .before .before .before .before .before .pre)) (c .before .before .translate .ensures))
+    (fits-so _ _ _ _ _ _ _ _ _ (t .w) (t .sized) _ refl _ (omega (arith, few-sized _ _ _ _ _ _ _ _ _ (t .w) (t .sized) .1, same-length-4 c, same-length-5 c, same-length-6 c, c .before .before .before .before .before .before .before .before .before .before .before .before .before .before .before .before .before .before .before .before .before .before .before .before .before .before .before .before .before .before .before .before .before .before .before .before .pre .0)) (c .before .before .translate .ensures))
 
 pub read-spec : {M : Type 1} → statement M
 read-spec =
@@ -95,7 +94,6 @@ read-spec =
     slice-aggregate-accept-2
     slice-aggregate-accept-3
     slice-aggregate-accept-4
-    slice-aggregate-accept-5
     accept-requires
     enum-known-q
     enum-known-s
@@ -111,8 +109,9 @@ read-spec =
     translate-requires
     same-length
     same-length-2
-    returns
     same-length-3
+    returns
     same-length-4
     same-length-5
+    same-length-6
     returns-2)

@@ -1,9 +1,9 @@
 use mathlib.Core.Path.{sym}
+use native.Mathlib.Omega.{arith}
 use lib.Seq.{length-take-le}
 use denote.Ref.{now}
-use Rattle.definition.specs.Limits.{document-01}
-use Rattle.definition.proofs.CallLaws.{run-refused}
-use Rattle.engine.proofs.Begins.{held, not-held}
+use Rattle.coding.proofs.Passing.{zeros-below}
+use Rattle.engine.proofs.Begins.{held, not-held, refused-so}
 use borrow.Author.Needs.{needs}
 use Rattle.engine.proofs.run.Statement.{statement}
 use Rattle.engine.proofs.run.Tie as tie
@@ -18,10 +18,13 @@ slice-aggregate-read-3 : tie.Need-slice-aggregate-read-3
 slice-aggregate-read-3 c = search needs
 
 read-requires : tie.Need-read-requires
-read-requires c κs = search needs
+read-requires c κs = (search needs, zeros-below 2048 4096 (omega arith))
 
 enum-known-q : tie.Need-enum-known-q
 enum-known-q c = search needs
+
+not-run-requires : tie.Need-not-run-requires
+not-run-requires c κs = search needs
 
 enum-known-s : tie.Need-enum-known-s
 enum-known-s c = search needs
@@ -49,8 +52,8 @@ with-texts-requires c κs = let t = held _ _ _ _ _ (c .before .before .before .b
 
 returns : tie.Need-returns
 returns c =
-    let s = c .before .before .before .before .before .before .before .before .before .before .before .before .before .before in
-    run-refused document-01 (now (s .args .facts)) (now (s .args .query)) (s .args .budget) (now (s .args .store)) (now (s .args .output)) _ (not-held _ _ _ _ _ (c .before .before .before .before .before .before .read .ensures) _ (c .before .q .given .1))
+    let s = c .before .before .before .before .before .before .before .before .before .before .before .before .before .before .before in
+    refused-so (now (s .args .facts)) (now (s .args .query)) (s .args .budget) (now (s .args .store)) (now (s .args .output)) _ (not-held _ _ _ _ _ (c .before .before .before .before .before .before .before .read .ensures) _ (c .before .before .q .given .1)) _ (c .not-run .ensures)
 
 same-length : tie.Need-same-length
 same-length c = search needs
@@ -70,6 +73,7 @@ run-spec =
     slice-aggregate-read-3
     read-requires
     enum-known-q
+    not-run-requires
     enum-known-s
     array-share-prefix-relations
     slice-aggregate-with-texts

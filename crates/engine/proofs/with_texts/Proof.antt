@@ -13,12 +13,16 @@ slice-aggregate-lay c = search needs
 lay-requires : tie.Need-lay-requires
 lay-requires c κs = search needs
 
+not-run-requires : tie.Need-not-run-requires
+not-run-requires c κs = search needs
+
 returns : tie.Need-returns
 returns c =
-    let s = c .before .before .before .before .before .before .before .before .before .before .before .before in
+    let s = c .before .before .before .before .before .before .before .before .before .before .before .before .before in
     λ w g.
-    let l = c .before .before .before .lay .ensures (now (s .args .facts)) (now (s .args .query)) w (g .relations-are) (g .size) in
-    too-short (now (s .args .facts)) (now (s .args .query)) (now (s .args .relations)) (now (s .args .places)) (now (s .args .low)) w g _ _ _ (now (s .args .store)) (now (s .args .output)) (s .args .budget) l (c .if1 .taken)
+    let l = c .before .before .before .before .lay .ensures (now (s .args .facts)) (now (s .args .query)) w (g .known .relations) (g .size) in
+    too-short (now (s .args .facts)) (now (s .args .query)) (now (s .args .relations)) (now (s .args .places)) (now (s .args .low)) w g _ _ _ l (now (s .args .store)) (c .before .if1 .taken) (now (s .args .output)) (s .args .budget) _
+    (c .not-run .ensures)
 
 slice-aggregate-from-facts : tie.Need-slice-aggregate-from-facts
 slice-aggregate-from-facts c = search needs
@@ -35,7 +39,7 @@ same-length-2 c = search needs
 returns-2 : tie.Need-returns-2
 returns-2 c =
     let s = c .before .before .before .before .before .before .before .before .before .before .before .before .before .before .before .before .before .before .before .before in
-    λ w g. c .before .before .before .before .from-facts .ensures w g (c .before .before .before .before .before .before .before .before .before .before .before .lay .ensures (now (s .args .facts)) (now (s .args .query)) w (g .relations-are) (g .size))
+    λ w g. c .before .before .before .before .from-facts .ensures w g (c .before .before .before .before .before .before .before .before .before .before .before .lay .ensures (now (s .args .facts)) (now (s .args .query)) w (g .known .relations) (g .size))
 
 pub with-texts-spec : {M : Type 1} → statement M
 with-texts-spec =
@@ -44,6 +48,7 @@ with-texts-spec =
     cast-lay
     slice-aggregate-lay
     lay-requires
+    not-run-requires
     returns
     slice-aggregate-from-facts
     from-facts-requires

@@ -13,7 +13,7 @@ use Rattle.facts.specs.Again.{FactOfLine}
 use Rattle.facts.specs.declared.Counts.{Counts}
 use Rattle.breaks.proofs.FirstLine.{line-size}
 use Rattle.facts.proofs.TakeLaws.{what, gives, all-wider}
-use Rattle.facts.proofs.AgainLaws.{facts-end, facts-dot, facts-step}
+use Rattle.facts.proofs.AgainLaws.{some-byte, facts-end, facts-dot, facts-step}
 
 abbrev no-counts : Counts
 no-counts = record { relations = 0; elements = 0 }
@@ -63,7 +63,8 @@ returns c =
     let w = what (s2 .args .facts .now) (s2 .args .facts .now) (l .a) (line-end .result) (line-end .ensures .1 .0) within (c .before .f .given .0 .0) (t .0) (t .1 (l .a)) [] [] [] [] no-counts in
     let g = gives (s2 .args .facts .now) (s2 .args .facts .now) (l .a) (line-end .result) (line-end .ensures .1 .0) within (c .before .f .given .0 .0) (t .0) (t .1 (l .a)) [] [] [] [] no-counts in
     let s : facts-from (s2 .args .facts .now) (l .a) ≡ fact-at (s2 .args .facts .now) (l .a) (c .before .f .given .0 .0) ∷ facts-from (s2 .args .facts .now) (run-end .result + 1) = facts-step (s2 .args .facts .now) (l .a) (run-end .result) (line-end .result) (omega (arith, test .taken)) (run-end .ensures .0) (run-end .ensures .1 .1) (line-end .ensures .0) (w .0) ∙ rw g in
-    (l .inv .1 ∙ s, l .inv .0, omega (arith, run-end .ensures .1), omega (arith, test .taken), all-wider _ _ _ (omega (arith, line-size (s2 .args .facts .now) (l .a) (line-end .result) (line-end .ensures .1 .0) within, within)) (t .0))
+    let size = line-size (s2 .args .facts .now) (l .a) (line-end .result) (line-end .ensures .1 .0) within in
+    (l .inv .1 ∙ s, l .inv .0, omega (arith, size, some-byte _ (w .1), line-end .ensures .1 .1), omega (arith, test .taken), all-wider _ _ _ (omega (arith, size, within)) (t .0))
 
 enum-told : tie.Need-enum-told Inv-loop μ-loop
 enum-told c = search needs

@@ -9,19 +9,25 @@ use Rattle.layout.proofs.records.Statement.{statement}
 use Rattle.layout.proofs.records.Tie as tie
 
 abbrev Inv-loop : tie.InvT-loop
-Inv-loop facts query relations u rs₀ next₀ i₀ rs next i = (i ≤ length relations) × Recording facts query u relations rs next i
+Inv-loop facts query relations u sizes rs₀ next₀ i₀ rs next i = (i ≤ length relations) × Recording facts query u relations sizes rs next i
 
 abbrev μ-loop : tie.MeasureT-loop
-μ-loop facts query relations u rs₀ next₀ i₀ rs next i = length relations - i
+μ-loop facts query relations u sizes rs₀ next₀ i₀ rs next i = length relations - i
 
 loop-holds : tie.Need-loop-holds Inv-loop μ-loop
-loop-holds c = (omega arith, recording-start (now (c .before .before .before .args .facts)) (now (c .before .before .before .args .query)) (c .before .before .before .args .u) (now (c .before .before .before .args .relations)))
+loop-holds c = (omega arith, recording-start (now (c .before .before .before .args .facts)) (now (c .before .before .before .args .query)) (c .before .before .before .args .u) (now (c .before .before .before .args .relations)) (c .before .before .before .args .t5))
 
 mul-w : tie.Need-mul-w Inv-loop μ-loop
 mul-w c = search needs
 
 shared-slice-read-w : tie.Need-shared-slice-read-w Inv-loop μ-loop
 shared-slice-read-w c = search needs
+
+mul-record-of : tie.Need-mul-record-of Inv-loop μ-loop
+mul-record-of c = omega (arith, c .before .before .before .before .before .before .pre, c .before .loop-test .taken)
+
+array-read-record-of : tie.Need-array-read-record-of Inv-loop μ-loop
+array-read-record-of c = omega (arith, c .before .before .before .before .before .before .pre, c .before .loop-test .taken)
 
 record-of-requires : tie.Need-record-of-requires Inv-loop μ-loop
 record-of-requires c κs = search needs
@@ -45,10 +51,10 @@ loop-less : tie.Need-loop-less Inv-loop μ-loop
 loop-less c = search needs
 
 loop-again : tie.Need-loop-again Inv-loop μ-loop
-loop-again c = let s = c .before .before .before .before .before .before .before .before in let l = c .before .before .before .before .loop in (omega arith, rw (c .table-words .ensures, c .before .record-of .ensures) (recording-next (now (s .args .facts)) (now (s .args .query)) (s .args .u) (now (s .args .relations)) (l .rs) (l .next) (l .i) (l .inv .1) (s .pre .1) (c .before .before .before .loop-test .taken) (omega (arith, s .pre, c .before .before .before .loop-test .taken))))
+loop-again c = let s = c .before .before .before .before .before .before .before .before in let l = c .before .before .before .before .loop in (omega arith, rw (c .table-words .ensures, c .before .record-of .ensures) (recording-next (now (s .args .facts)) (now (s .args .query)) (s .args .u) (now (s .args .relations)) (s .args .t5) (l .rs) (l .next) (l .i) (l .inv .1) (s .pre .1) (c .before .before .before .loop-test .taken) (omega (arith, s .pre, c .before .before .before .loop-test .taken))))
 
 returns : tie.Need-returns Inv-loop μ-loop
-returns c = let s = c .before .before .before .before .before in let l = c .before .loop in recording-end (now (s .args .facts)) (now (s .args .query)) (s .args .u) (now (s .args .relations)) (l .rs) (l .next) (l .i) (l .inv .1) (c .loop-test .left) (l .inv .0)
+returns c = let s = c .before .before .before .before .before in let l = c .before .loop in recording-end (now (s .args .facts)) (now (s .args .query)) (s .args .u) (now (s .args .relations)) (s .args .t5) (l .rs) (l .next) (l .i) (l .inv .1) (c .loop-test .left) (l .inv .0)
 
 pub records-spec : {M : Type 1} → statement M
 records-spec =
@@ -59,6 +65,8 @@ records-spec =
     loop-holds
     mul-w
     shared-slice-read-w
+    mul-record-of
+    array-read-record-of
     record-of-requires
     mul-rs
     array-set-from-rs

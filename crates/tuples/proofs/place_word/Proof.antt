@@ -1,87 +1,31 @@
 use borrow.Author.Needs.{needs}
-use Prim.Native.Nat.{ℕ, _+_, _*_, _-_, _^_, _<_, _≤_}
-use mathlib.Core.Path.{_≡_, sym, ap, _∙_}
-use native.Mathlib.Nat.{sub-zero, pow-le-pow-right, zero-lt-suc}
+use Prim.Native.Nat.{ℕ, suc, _-_}
+use mathlib.Core.Path.{_≡_, ap, _∙_}
 use native.Mathlib.Omega.{arith}
-use lib.ListN.{take, drop}
+use lib.ListN.{take}
 use mir.Syntax.{w8}
 use borrow.Kind.Array.{good-length, eInt}
 use Rattle.tuples.specs.Places.{word-at}
-use Rattle.tuples.proofs.Turns.{word-step, word-end, step-lt}
+use Rattle.tuples.proofs.Tables.{word-number}
 use Rattle.tuples.proofs.place_word.Statement.{statement}
 use Rattle.tuples.proofs.place_word.Tie as tie
 
-abbrev Inv-loop : tie.InvT-loop
-Inv-loop u n t w₀ k₀ w k = (k ≤ n) × (w < 256 ^ k) × (word-at u w (take (n - k) (drop k t)) ≡ word-at u 0 (take n t))
+returns : tie.Need-returns
+returns c = search needs
 
-abbrev μ-loop : tie.MeasureT-loop
-μ-loop u n t w₀ k₀ w k = n - k
+sub-tuple-number : tie.Need-sub-tuple-number
+sub-tuple-number c = search needs
 
-loop-holds : tie.Need-loop-holds Inv-loop μ-loop
-loop-holds c = (omega arith, omega arith, ap (λ (m : ℕ). word-at (c .args .u) 0 (take m (c .args .t3))) (sub-zero (c .args .n)))
+tuple-number-requires : tie.Need-tuple-number-requires
+tuple-number-requires c κs = search needs
 
-add-loop : tie.Need-add-loop Inv-loop μ-loop
-add-loop c = omega arith
-
--- four digits fit
-small : (k : ℕ) → k ≤ 4 → 256 ^ k ≤ 4294967296
-small k h = pow-le-pow-right (zero-lt-suc 255) h
-
-mul-w : tie.Need-mul-w Inv-loop μ-loop
-mul-w c =
-    let a = c .before .before .args in
-    let L = c .before .loop in
-    omega (arith, step-lt (a .u) (L .w) (L .k) 0 (c .before .before .fits .u .fits) (L .inv .1) (omega arith), small (L .k + 1) (omega arith))
-
-array-read-wide : tie.Need-array-read-wide Inv-loop μ-loop
-array-read-wide c = omega arith
-
-wide-requires : tie.Need-wide-requires Inv-loop μ-loop
-wide-requires c κs = search needs
-
-next-lt : (c : tie.After-wide Inv-loop μ-loop) → c .before .before .before .args .u * c .before .before .loop .w + c .wide .result < 256 ^ (c .before .before .loop .k + 1)
-next-lt c =
-    step-lt (c .before .before .before .args .u) (c .before .before .loop .w) (c .before .before .loop .k) (c .wide .result) (c .before .before .before .fits .u .fits) (c .before .before .loop .inv .1) (c .wide .ensures .1)
-
-add-w : tie.Need-add-w Inv-loop μ-loop
-add-w c = omega (arith, next-lt c, small (c .before .before .loop .k + 1) (omega arith))
-
-add-k : tie.Need-add-k Inv-loop μ-loop
-add-k c = omega arith
-
-loop-less : tie.Need-loop-less Inv-loop μ-loop
-loop-less c = omega arith
-
-loop-again : tie.Need-loop-again Inv-loop μ-loop
-loop-again c =
-    let a = c .before .before .before .args in
-    let L = c .before .before .loop in
-    let l = good-length (eInt w8) 4 (a .t3) _ (c .before .before .before .good .1 .1 .0) in (
-      omega arith,
-      next-lt c,
-      ap (λ (x : ℕ). word-at (a .u) (a .u * L .w + x) (take (a .n - (L .k + 1)) (drop (L .k + 1) (a .t3)))) (c .wide .ensures .0)
-          ∙ sym (word-step (a .u) (L .w) (L .k) (a .n) (a .t3) (omega arith) (omega arith)) ∙ L .inv .2,
-    )
-
-returns : tie.Need-returns Inv-loop μ-loop
-returns c =
-    let a = c .before .before .args in
-    let L = c .before .loop in
-    (sym (word-end (a .u) (L .w) (L .k) (a .n) (a .t3) (omega arith)) ∙ L .inv .2, omega (arith, small (L .k) (omega arith)))
+returns-2 : tie.Need-returns-2
+returns-2 c =
+    let s = c .before .before in
+    let a = s .args in
+    let l = good-length (eInt w8) 4 (a .t) _ (s .good .1 .1 .0) in
+    let e : suc (a .n - 1) ≡ a .n = omega arith in
+    (c .tuple-number .ensures .0 ∙ word-number (a .u) (a .n - 1) (a .t) (omega arith) ∙ ap (λ (m : ℕ). word-at (a .u) 0 (take m (a .t))) e, c .tuple-number .ensures .1)
 
 pub place-word-spec : {M : Type 1} → statement M
-place-word-spec =
-    tie.close
-    (tie.spec
-    Inv-loop
-    μ-loop
-    loop-holds
-    add-loop
-    mul-w
-    array-read-wide
-    wide-requires
-    add-w
-    add-k
-    loop-less
-    loop-again
-    returns)
+place-word-spec = tie.close (tie.spec returns sub-tuple-number tuple-number-requires returns-2)

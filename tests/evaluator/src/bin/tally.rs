@@ -1,8 +1,10 @@
-//! How many generated texts are accepted, how the others are refused, which forms the accepted ones have, which elements they print and
-//! which relations are read back, what malformed patterns come to, and where bytes 13 stand: what the comparisons reach.
+//! How many generated texts are accepted, how the others are refused, which forms the accepted ones have, which elements they print,
+//! how large relations become and which are read back, what malformed patterns come to, and where bytes 13 stand: what the comparisons
+//! reach.
+use evaluator::calculator::Evaluator;
 use evaluator::generate::{texts, Texts, LIMITS};
-use evaluator::read_back::{relations, Evaluator};
-use evaluator::{accept, chain, forms, Accepted};
+use evaluator::read_back::relations;
+use evaluator::{accept, chain, counted, forms, Accepted};
 use std::collections::BTreeMap;
 
 /// What accepted texts have and what their runs do.
@@ -10,8 +12,11 @@ fn reached(t: &Texts, w: &Accepted) -> Vec<String> {
     let mut found = forms::of(w);
     if let Ok(ran) = w.run(t.budget, w.checked().words, t.room) {
         found.extend(forms::printed(w, &ran));
+        found.push(forms::counts(w, &ran));
+        found.extend(forms::changes(&ran));
     }
     found.extend(relations(&Evaluator, t, w).unwrap_or_else(|e| vec![format!("read back: {e}")]));
+    found.extend(counted::relations(&Evaluator, t).err().map(|e| format!("counted: {e}")));
     found
 }
 

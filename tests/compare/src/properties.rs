@@ -1,14 +1,19 @@
-//! Paper 3 of document 02 through the archive: each relation that a run leaves, printed and read back.
-use crate::calls::{Difference, Met};
+//! What papers of document 02 promise of any calculator, through the archive: each relation that a run leaves, printed and read back
+//! (Paper 3), and the counts of runs, as many as the tables have tuples (Paper 4).
+use crate::calls::{counts, Difference, Met};
+use evaluator::calculator::{Answer, Calculator, Evaluator};
 use evaluator::generate::Texts;
-use evaluator::read_back::{relations, Answer, Calculator, Evaluator};
 use evaluator::run::Ending;
-use evaluator::{Accepted, Checked, Refusal};
+use evaluator::{counted, read_back, Accepted, Checked, Refusal};
 use relcalc::c;
 
 struct Archive {
     /// whether each element is asked for; if not, their texts are the evaluator's
     elements: bool,
+}
+
+fn of_evaluator(difference: String) -> String {
+    format!("the evaluator: {difference}")
 }
 
 fn accepted(row: u64, place: u64) -> Result<(), Refusal> {
@@ -29,9 +34,9 @@ impl Calculator for Archive {
         };
         output.truncate(ran.written as usize);
         let records = k.records[..k.relations as usize].iter();
-        let records = records.map(|r| [r.text, r.offset, r.length, r.arity, r.first].map(|n| n as usize)).collect();
+        let records = records.map(|r| [r.text, r.offset, r.length, r.arity, r.first, r.count].map(|n| n as usize)).collect();
         let checked = Checked { universe: k.universe as usize, words: k.words as usize, records };
-        Ok(Answer { checked, ending, steps: ran.steps, output, store })
+        Ok(Answer { checked, ending, steps: ran.steps, output, store, counts: counts(&ran) })
     }
     fn elements(&self, facts: &[u8], query: &[u8], count: usize) -> Vec<Vec<u8>> {
         if !self.elements {
@@ -50,7 +55,15 @@ pub fn read_back_differs(t: &Texts, accepted: &Result<Accepted, Refusal>, met: &
     let Ok(w) = accepted else {
         return Ok(());
     };
-    relations(&Evaluator, t, w).map_err(|e| format!("the evaluator: {e}"))?;
-    relations(&Archive { elements: t.elements }, t, w)?.into_iter().for_each(|what| met.add(what));
+    read_back::relations(&Evaluator, t, w).map_err(of_evaluator)?;
+    read_back::relations(&Archive { elements: t.elements }, t, w)?.into_iter().for_each(|what| met.add(what));
     Ok(())
+}
+
+pub fn counted_differs(t: &Texts, accepted: &Result<Accepted, Refusal>) -> Difference {
+    if accepted.is_err() {
+        return Ok(());
+    }
+    counted::relations(&Evaluator, t).map_err(of_evaluator)?;
+    counted::relations(&Archive { elements: false }, t)
 }

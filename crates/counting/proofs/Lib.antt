@@ -1,0 +1,5 @@
+-- The loop over the numbers, what it counts, that it is the number of tuples where the numbers are those of facts, and that they are.
+pub mod TallyLaws
+pub mod SetCounts
+pub mod FactCounts
+pub mod Entering

@@ -1,0 +1,3 @@
+-- Sets of numbers as ascending lists.
+pub mod Sets
+pub mod Places
