@@ -8,6 +8,7 @@ import sqlite3
 import subprocess
 import sys
 import time
+from fractions import Fraction
 
 to = sys.argv[1]
 r = random.Random(64220)
@@ -259,6 +260,36 @@ def picking():
     print(f"\nThe check of `PRINT Element(x);` takes {without:,.1f}.")
 
 
+def quantities():
+    """What each query must print, by counting in Python. The last three print the same rows: without a count, with one that is asked for each word
+    of answers, and with one that is asked once."""
+    starts = {a for a, _ in PAIRS}
+    chained = sum(b == c for _, b in PAIRS for c, _ in PAIRS)
+    share = Fraction(len(starts & set(HELD)), len(starts))
+    rows = sorted(f"{a} {b}" for a, b in PAIRS)
+    yield "PRINT #(Held(x));", [str(len(HELD))]
+    yield "PRINT #(On(x,y));", [str(len(PAIRS))]
+    yield "PRINT #(On(x,y) & On(y,z));", [str(chained)]
+    yield "PRINT #(TRUE(x,y,z));", [str(len(ELEMENTS) ** 3)]
+    yield "PRINT #(Held(x) & On(x,_)) / #(On(x,_));", [f"{share.numerator}/{share.denominator}"]
+    yield "PRINT On(x,y);", rows
+    yield "PRINT On(x,y) & (#(On(x,y) & On(y,z)) > 3);", rows
+    yield "Many() := #(On(x,y) & On(y,z)) > 3; PRINT On(x,y) & Many();", rows
+
+
+def counting():
+    """Counts over the facts of the first table."""
+    path = file("facts.rsf", facts(ELEMENTS, PAIRS, HELD))
+    (_, loading), _ = program(os.path.join(to, "relcalc"), path, file("query.rml", "PRINT ENDL;"))
+    rows = []
+    for query, want in quantities():
+        (_, run), got = program(os.path.join(to, "relcalc"), path, file("query.rml", query))
+        if got != want:
+            sys.exit(f"{query} prints something else")
+        rows.append([f"`{query}`", str(len(got)), f"{run:,.1f}", f"{run - loading:,.1f}"])
+    table(["query", "lines", "run", "less loading"], rows)
+
+
 print(f"SQLite {sqlite3.sqlite_version}, Python {sys.version.split()[0]}; shortest times in microseconds\n")
 compared()
 print()
@@ -267,3 +298,5 @@ print()
 reading()
 print()
 picking()
+print()
+counting()

@@ -30,18 +30,20 @@ extern "C" {
 #define RELCALC_ELEMENTS 64         /* in the facts and on left-hand sides together */
 #define RELCALC_RELATIONS 16        /* in facts and query together */
 #define RELCALC_ARITY 3
-#define RELCALC_NAME_BYTES 32       /* a name, an element, a string */
+#define RELCALC_NAME_BYTES 32       /* a name, an element, a string, the digits of a number */
 #define RELCALC_NESTING 32
 #define RELCALC_ATTRIBUTES 4        /* names in one statement */
 #define RELCALC_CLOSURES 16         /* in one statement */
+#define RELCALC_SUMMANDS 8          /* in one sum */
+#define RELCALC_LITERAL 999999      /* the largest number that a query may write out */
 #define RELCALC_STORE_WORDS 70656   /* enough for every accepted pair of texts */
 #define RELCALC_CHAIN_BYTES 65      /* the least buffer for a chain, and enough for each */
 
 /* Why a call refuses: `refusal`, with what `place` then holds. 0 is no refusal.
    Rows are tested in this order: 1; 2 over all lines read; then line by line, in each 3, then per element 4 and, at the first too
-   many, 5; then 5 for another arity, 6, 7. Then 8; 9; 13 for tokens; 10 with 13 for nesting, left to right; 18 by token; 11, 5, 6 by
-   token; 13 then 12 by statement; 7; 14. So a refusal 5, 6 or 7 is one of the facts exactly where the facts with an empty query have it
-   too. */
+   many, 5; then 5 for another arity, 6, 7. Then 8; 9; 13 for tokens; 10 with 19 and with 13 for nesting, left to right, at one token 10,
+   then 19, then 13; 18 by token; 11, 5, 6 by token; 13 then 12 by statement; 7; 14. So a refusal 5, 6 or 7 is one of the facts exactly
+   where the facts with an empty query have it too. */
 enum {
     RELCALC_FACTS_TOO_LONG = 1,      /* 32768: facts over 32,768 bytes */
     RELCALC_FACT_BYTE = 2,           /* the byte: in the lines read, not 9, 10 or 32..126, and no 13 that belongs to a line end */
@@ -57,16 +59,17 @@ enum {
     RELCALC_NO_PROGRAM = 10,         /* the token: those up to it begin no program; the query's length where it ends too soon */
     RELCALC_KIND = 11,               /* the name: a second kind, a kind its place does not take, a loop variable unbound or bound again */
     RELCALC_FREE_ATTRIBUTES = 12,    /* the statement: left attributes are not the free ones of the right side; IF or WHILE with any free,
-                                        FOR not with one, TC or TCFAST not with two, a printed expression with over 3 */
+                                        FOR not with one, TC or TCFAST not with two, a printed expression or what # counts with over 3 */
     RELCALC_TOO_MUCH = 13,           /* the 2,049th token; the token that opens level 33; the statement with a 5th attribute or a 17th
                                         closure */
     RELCALC_STORE_SHORT = 14,        /* the words needed: more than the store has */
     RELCALC_NOT_IN_FACTS = 15,       /* 0: no binary relation so named, or one of the elements not in the facts */
     RELCALC_BUFFER_SHORT = 16,       /* 0: buffer under 65 bytes */
     RELCALC_NO_CHAIN = 17,           /* 0: no chain exists */
-    RELCALC_PATTERN = 18             /* the string after an @, its opening quote: an empty or malformed pattern. A pattern is one or more
+    RELCALC_PATTERN = 18,            /* the string after an @, its opening quote: an empty or malformed pattern. A pattern is one or more
                                         branches parted by "|", each one or more of "^", "$", or a character, ".", set or "(" pattern ")"
                                         with at most one of "*", "+", "?", "{m,n}"; docs/QUERIES.md has the forms */
+    RELCALC_NUMBER = 19              /* the token: a number over 999,999 or a ninth summand's first */
 };
 
 /* Which text a part stands in. */
@@ -90,8 +93,8 @@ typedef struct {
 } relcalc_checked;
 
 /* Whether a run would accept the texts with store enough, and what it needs.
-   Accepted: refusal and place are 0; the records are in store order, unused ones all zero. Refused, 1 to 13 or 18: all else is 0.
-   Writes nothing that is lent. */
+   Accepted: refusal and place are 0; the records are in store order, unused ones all zero. Refused, 1 to 13, 18 or 19: all else is
+   0. Writes nothing that is lent. */
 relcalc_checked relcalc_check(const uint8_t *facts, size_t facts_len, const uint8_t *query, size_t query_len);
 
 typedef struct {
@@ -116,7 +119,9 @@ typedef struct {
    quoted it, or if it is empty or holds a space or tab; a label, string or loop variable never is. So PRINT ["R"] R(x,y); with a
    different attribute for each column gives lines of facts: read as facts, if they are at most 32,768 bytes, they have R's tuples, text
    for text. If R is empty there is no line.
-   Refused, 1 to 14 or 18: all else is 0; store and output are unchanged.
+   A printed sum is its digits; a ratio is reduced, as top, slash, bottom, also over 1 (6/3 is 2/1), or `none` where its bottom is 0. No
+   line end follows. A comparison with a ratio over 0 is false, != too; no arithmetic ends a run.
+   Refused, 1 to 14, 18 or 19: all else is 0; store and output are unchanged.
    Steps are not time: one step may take long where quantifiers nest (docs/PERFORMANCE.md). */
 relcalc_ran relcalc_run(const uint8_t *facts, size_t facts_len, const uint8_t *query, size_t query_len, uint32_t budget,
                         uint64_t *store, size_t store_len, uint8_t *output, size_t output_len);
@@ -126,8 +131,8 @@ typedef struct {
 } relcalc_part;
 
 /* The text of element n of a run of these texts, without quotes: its first place in the facts or, if no fact holds it, the first
-   left-hand string of the query. Where n is not below U, or the texts are refused (1 to 13 or 18): text 1, offset 0, length 0, which
-   no element has. Never refuses; writes nothing that is lent. */
+   left-hand string of the query. Where n is not below U, or the texts are refused (1 to 13, 18 or 19): text 1, offset 0, length 0,
+   which no element has. Never refuses; writes nothing that is lent. */
 relcalc_part relcalc_element(const uint8_t *facts, size_t facts_len, const uint8_t *query, size_t query_len, size_t n);
 
 typedef struct {

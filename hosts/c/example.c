@@ -1,4 +1,5 @@
-/* The worked example, curves picked by a pattern, a name with blanks, each with the sizes of its relations, then a refusal. */
+/* The worked example, curves picked by a pattern, a name with blanks, shares of a book, each with the sizes of its relations, then two
+   refusals. */
 #include "relcalc.h"
 
 #include <stdio.h>
@@ -40,6 +41,9 @@ int main(void)
     int first = run("Dep(x,y) := TC(On(x,y)); PRINT [\"Dep\"] Dep(x,y);");
     int second = run("PRINT [\"starts with C1:\"] On(x,_) & @\"^C1\"(x);");
     int third = run("Held(\"5Y off the run\"); PRINT [\"Held\"] Held(x);"); /* lines of facts, so the name is in quotes */
-    int fourth = run("Dep(x) := TC(On(x,y));"); /* y is free on the right side only: refused 12 0 */
-    return !(first == 0 && second == 0 && third == 0 && fourth == 1);
+    /* held bonds on this curve over all held bonds */
+    int fourth = run("Held(\"B9\"); On(\"B9\",\"C5\"); FOR c IN On(_,x) { PRINT c, \" \", #(Held(x) & On(x,c)) / #(Held(x)), ENDL; }");
+    int fifth = run("Dep(x) := TC(On(x,y));"); /* y is free on the right side only: refused 12 0 */
+    int sixth = run("IF #(Held(x)) > 1000000 { PRINT \"many\"; }"); /* a number is at most 999,999: refused 19 16 */
+    return !(first == 0 && second == 0 && third == 0 && fourth == 0 && fifth == 1 && sixth == 1);
 }

@@ -1,5 +1,5 @@
-/* The calls from C: the worked example, facts saved with CR LF, patterns, printed quotes, counts of tuples, refusals, null and equal
-   texts, the largest sizes, a small stack. */
+/* The calls from C: the worked example, facts saved with CR LF, patterns, printed quotes, counts of tuples, sums and ratios, refusals,
+   null and equal texts, the largest sizes, a small stack. */
 #define _POSIX_C_SOURCE 200809L
 #include "lent.h"
 #include "relcalc.h"
@@ -278,6 +278,41 @@ static void no_counts_of_refusals(void)
     EXPECT(refused(run(F, Q, 9, store, 76, output, 64), RELCALC_STORE_SHORT, 77) && LOADED(check(F, Q), 3, 1, 0));
 }
 
+static void quantities(void)
+{
+    EXPECT(prints("PRINT #(On(x,y)), #(On(x,_)), #(TRUE()), #(FALSE(x));", 1, "3310"));
+    EXPECT(prints("PRINT #(Held(x) & On(x,_)) / #(On(x,_));", 1, "1/3"));
+    EXPECT(prints("FOR c IN On(_,x) { PRINT c, \" \", #(On(x,c)) / #(On(x,y)), ENDL; }", 7, "C10 1/3\nC2 1/3\nC5 1/3\n"));
+    EXPECT(prints("PRINT 1+2/3+4, \" \", 6/3, \" \", 0/5, \" \", 007, \" \", 999999+999999;", 1, "3/7 2/1 0/1 7 1999998"));
+    EXPECT(prints("PRINT 1/0, 0/0, #(Held(x))/#(FALSE(x));", 1, "nonenonenone"));
+    EXPECT(prints("PRINT [\"a\"] 2/4 = 3/6, [\"b\"] 1/3 < 1/2, [\"c\"] 5/9 < 4/7, [\"d\"] 2 > 4/2;", 1, "a\nb\nc\n"));
+    EXPECT(prints("PRINT [\"a\"] 1/0 = 1, [\"b\"] 1/0 != 1, [\"c\"] 1 <= 0/0, [\"d\"] !(1/0 = 1/0);", 1, "d\n"));
+    EXPECT(prints("PRINT [\"a\"] 65536 = 0/65536;", 1, ""));
+    EXPECT(prints("PRINT Held(x) & (#(On(x,y)) = 3);", 1, "B7\n"));
+    EXPECT(prints("WHILE #(Held(x)) < 3 { Held(x) := Held(x) | EX(y, Held(y) & On(y,x)); } PRINT #(Held(x));", 6, "3"));
+    EXPECT(prints("PRINT 6/*2*//3, 6// 2\n;", 1, "2/16"));
+    EXPECT(prints("PRINT 00000000000000000000000000999999;", 1, "999999"));
+    EXPECT(ended(over(F, "PRINT 10/4;", 9, 3), RELCALC_DONE, 1, 3) && ended(over(F, "PRINT 10/4;", 9, 2), RELCALC_FULL, 0, 0));
+    EXPECT(ended(over(F, "WHILE #(Held(x)) = 1 { P(); }", 5, 0), RELCALC_SPENT, 5, 0));
+    EXPECT(ended(over(NULL, "PRINT #(TRUE(x)), #(TRUE());", 9, 2), RELCALC_DONE, 1, 2) && !memcmp(output, "01", 2));
+}
+
+static void refused_numbers(void)
+{
+    EXPECT(checked(F, "PRINT 1000000;", RELCALC_NUMBER, 6, 0) && checked(F, "PRINT 0001000000;", RELCALC_NUMBER, 6, 0));
+    EXPECT(checked(F, "PRINT 1+1+1+1+1+1+1+1+1;", RELCALC_NUMBER, 22, 0) && checked(F, "PRINT 1+1+1+1+1+1+1+1;", 0, 0, 4));
+    EXPECT(checked(F, "IF 2/1+1+1+1+1+1+1+1+#(Held(x)) < 1 { P(); }", RELCALC_NUMBER, 21, 0));
+    EXPECT(checked(F, "PRINT 99999999999999999999999999999999;", RELCALC_NUMBER, 6, 0));
+    EXPECT(checked(F, "PRINT 000000000000000000000000000000000;", RELCALC_NO_TOKEN, 6, 0));
+    EXPECT(checked(F, "PRINT On(1000000,x);", RELCALC_NO_PROGRAM, 9, 0) && checked(F, "PRINT !1=1;", RELCALC_NO_PROGRAM, 7, 0));
+    EXPECT(checked(F, "PRINT [\"a\"] 1;", RELCALC_NO_PROGRAM, 13, 0) && checked(F, "IF #(Held(x)) { P(); }", RELCALC_NO_PROGRAM, 14, 0));
+    EXPECT(checked(F, "PRINT zz, @\"(\"(x), 1000000;", RELCALC_NUMBER, 19, 0));
+    EXPECT(checked(F, "P(); PRINT #(TRUE(x,y,z,w));", RELCALC_FREE_ATTRIBUTES, 5, 0));
+    EXPECT(checked(F, "Q(x) := #(On(x,y)) > 1;", RELCALC_FREE_ATTRIBUTES, 0, 0));
+    EXPECT(refused_check(check(F, "PRINT 1000000;"), RELCALC_NUMBER, 6) && refused(over(F, "PRINT 1000000;", 9, 9), RELCALC_NUMBER, 6));
+    EXPECT(is_part(element(F, "PRINT 1000000;", 0), RELCALC_IN_QUERY, 0, 0));
+}
+
 static void refused_patterns(void)
 {
     static const char *const wrong[] = {"", "a|", "()", "*a", "^*", "a**", "a{3}", "(a", "a)", "[]", "[b-a]", "[[:alpha:]]", "\\"};
@@ -300,6 +335,7 @@ static void refusals(void)
     EXPECT(refused(run("Held B7\r\r\n", "PRINT ENDL;", 9, store, 76, output, 64), RELCALC_FACT_BYTE, 7));
     EXPECT(refused(run(F, "PRINT ENDL;\r\n", 9, store, 76, output, 64), RELCALC_NO_TOKEN, 11));
     EXPECT(refused(run(F, picking("C{3}"), 9, store, 76, output, 64), RELCALC_PATTERN, 7));
+    EXPECT(refused(run(F, "PRINT 1000000;", 9, store, 76, output, 64), RELCALC_NUMBER, 6));
     int same = 1;
     for (size_t i = 0; i < 76; i++)
         same &= store[i] == 0x0707070707070707;
@@ -336,6 +372,8 @@ static void largest_sizes(void)
     EXPECT(LOADED(c, 64, 1, 1, 1, 1, 1, 1, 1, 1, 1, 1, 1, 1, 1, 1, 1));
     relcalc_ran r = run(facts, query, UINT32_MAX, store, RELCALC_STORE_WORDS, output, sizeof output);
     EXPECT(ended(r, RELCALC_DONE, 2, 512) && COUNTED(r, 64, 64, 1, 1, 1, 1, 1, 1, 1, 1, 1, 1, 1, 1, 1, 1));
+    r = run(facts, "PRINT #(TRUE(x,y,z)), \" \", #(R0(x,y,z)) / 64+64;", 9, store, RELCALC_STORE_WORDS, output, sizeof output);
+    EXPECT(ended(r, RELCALC_DONE, 1, 10) && !memcmp(output, "262144 1/2", 10));
     r = run(facts, "R0(x,y,z) := FALSE(x,y,z); R15(x,y,z);", 9, store, RELCALC_STORE_WORDS, output, 0);
     EXPECT(COUNTED(r, 0, 1, 1, 1, 1, 1, 1, 1, 1, 1, 1, 1, 1, 1, 1, 262144));
     facts[32768] = '\n';
@@ -396,6 +434,8 @@ static void small_stack(void)
         { "one within 32 comparisons", stack_used(deep_query("(", 32, 462, "P()", "<=P())", "<=P())")) },
         { "one within 32 EX and comparisons", stack_used(deep_query("EX(x,", 32, 438, "P()", ">=P())", "<=P())")) },
         { "one with two columns", stack_used(deep_query("", 0, 510, "On(x,y)", "", "")) },
+        { "one within 32 counts", stack_used(deep_query("#(", 32, 470, "P()", ")=1", ")=1")) },
+        { "one with two columns within 32 counts", stack_used(deep_query("#(", 32, 469, "On(x,y)", ")=1", ")=1")) },
         { "one with a column within 32 EX", stack_used(deep_query("EX(y,", 32, 470, "On(x,y)", ")", ")")) },
         { "a pattern of 15 groups within 32 levels",
           stack_used(deep_query("(", 32, 0, "@\"(((((((((((((((a)))))))))))))))\"(_)", ")", ")")) },
@@ -420,6 +460,8 @@ int main(void)
     counts_as_loaded();
     counts_at_the_end();
     no_counts_of_refusals();
+    quantities();
+    refused_numbers();
     refusals();
     empty_and_equal();
     largest_sizes();

@@ -51,6 +51,7 @@ class Refusal(enum.Enum):
     BUFFER_SHORT = 16
     NO_CHAIN = 17
     PATTERN = 18
+    NUMBER = 19
 
 
 RULES = {
@@ -70,7 +71,7 @@ RULES = {
     Refusal.KIND: "a name has one kind (relation, attribute, loop variable) throughout, its place takes that kind, and a loop variable "
     "stands in its loop's block only and is not bound again there",
     Refusal.FREE_ATTRIBUTES: "an assignment's left attributes are the free ones of its right side; IF and WHILE have none, FOR one, TC "
-    "and TCFAST two, a printed expression at most 3",
+    "and TCFAST two, a printed expression and what #(e) counts at most 3",
     Refusal.TOO_MUCH: "a query has at most 2,048 tokens and 32 levels, a statement at most 4 attribute names and 16 closures",
     Refusal.STORE_SHORT: "the store has at least the words needed",
     Refusal.NOT_IN_FACTS: "the facts hold a binary relation of this name and both elements",
@@ -78,6 +79,7 @@ RULES = {
     Refusal.NO_CHAIN: "no chain exists",
     Refusal.PATTERN: "a pattern is one or more branches parted by |, each one or more pieces: ^, $, or a character, ., set or group with "
     "at most one repeat sign *, +, ? or {m,n}",
+    Refusal.NUMBER: "a sum has at most 8 summands, each a count #(e) or a number, and a number is at most 999,999",
 }
 
 
@@ -150,7 +152,7 @@ class At:
 class Explained:
     """Where and why texts were refused; `at` is None for 14 to 17, whose place is no place in a text.
 
-    `fault` is what is wrong with a refused pattern, where that can be told; the caret is then shown under its byte.
+    `fault` is what is wrong with a refused pattern or number, where that can be told; the caret is then shown under its byte.
     """
 
     refused: Refused
@@ -167,7 +169,8 @@ class Explained:
         caret = self.at.caret
         if self.fault is not None:
             head += f"; here {self.fault.reason}"
-            caret += 1 + self.fault.offset  # a pattern begins after its string's quote
+            # a pattern begins after its string's quote
+            caret += self.fault.offset + (self.refused.refusal is Refusal.PATTERN)
         return f"{head}\n  {_plain(self.at.shown)}\n  {' ' * caret}^"
 
 
@@ -247,7 +250,7 @@ class Relcalc:
         """Runs the query over the facts with a store of so many words and room for so many bytes.
 
         An element is printed in quotes if a fact quoted it, or if it is empty or holds a blank, so the lines of `PRINT ["R"] R(x,y);`
-        can be read back as facts.
+        can be read back as facts. A sum is printed as its digits, a ratio reduced, as `1/3`, or `none` over 0, with no line end.
         """
         if not 0 <= budget < 2**32:
             raise ValueError("a budget has 32 bits")
@@ -309,8 +312,10 @@ def _token(rest):
     """The end of the token at the start of a line's rest."""
     if rest[:1] == b'"':
         return _string(rest)
+    if rest[:1].isdigit():
+        return len(rest) - len(rest.lstrip(b"0123456789"))
     name = next((i for i, b in enumerate(rest) if not (chr(b).isalnum() and b < 128) and b != ord("_")), len(rest))
-    if name and not rest[:1].isdigit():
+    if name:
         return name
     marks = (b"<->", b"->", b"<=", b">=", b"!=", b":=", b"/*")
     return next((len(m) for m in marks if rest.startswith(m)), 1)
@@ -342,8 +347,17 @@ def _at(refused, which, text):
     return At(which, text.count(b"\n", 0, place) + 1, seen - start + 1, found, shown, seen - first)
 
 
+def _summand_fault(token):
+    """What is wrong with a summand's first token: a number that is too large, whichever summand it is, or one summand too many."""
+    if token.isdigit() and int(token) > 999_999:
+        return Fault(0, "a number over 999,999")
+    return Fault(0, "a ninth summand of one sum") if token.isdigit() or token == b"#" else None
+
+
 def _fault_of(refused, found):
-    """What is wrong with the string that was found, if it was refused as a pattern."""
+    """What is wrong with the token that was found, if it was refused as a pattern or a number."""
+    if refused.refusal is Refusal.NUMBER:
+        return _summand_fault(found)
     string = re.fullmatch(rb'"([^"]*)"', found)
     return first_fault(string[1]) if string and refused.refusal is Refusal.PATTERN else None
 

@@ -9,7 +9,10 @@ from dataclasses import dataclass
 
 @dataclass(frozen=True)
 class Fault:
-    """What is wrong, and at which byte of the pattern, from 0; its length where something is lacking at its end."""
+    """What is wrong, and at which byte of the pattern, from 0; its length where something is lacking at its end.
+
+    With a refused number it is the token's first byte.
+    """
 
     offset: int
     reason: str

@@ -1,5 +1,5 @@
-"""The wrapper over the shared object: the worked example, facts saved with CR LF, patterns, printed quotes, counts of tuples, refusals,
-empty and equal texts, the largest sizes."""
+"""The wrapper over the shared object: the worked example, facts saved with CR LF, patterns, printed quotes, counts of tuples, sums and
+ratios, refusals, empty and equal texts, the largest sizes."""
 import ctypes
 import itertools
 import os
@@ -274,6 +274,62 @@ class Host(unittest.TestCase):
         sizes = [ctypes.sizeof(s) for s in (relcalc._Record, relcalc._Checked, relcalc._Ran)]
         self.assertEqual(sizes, [6 * 8, (5 + 6 * 16) * 8, (5 + 16) * 8])
 
+    def test_quantities(self):
+        for query, page in [
+            (b"PRINT #(On(x,y)), #(On(x,_)), #(TRUE()), #(FALSE(x));", b"3310"),
+            (b"PRINT #(Held(x) & On(x,_)) / #(On(x,_));", b"1/3"),
+            (b'FOR c IN On(_,x) { PRINT c, " ", #(On(x,c)) / #(On(x,y)), ENDL; }', b"C10 1/3\nC2 1/3\nC5 1/3\n"),
+            (b'PRINT 1+2/3+4, " ", 6/3, " ", 0/5, " ", 007, " ", 999999+999999;', b"3/7 2/1 0/1 7 1999998"),
+            (b"PRINT 1/0, 0/0, #(Held(x))/#(FALSE(x));", b"nonenonenone"),
+            (b'PRINT ["a"] 2/4 = 3/6, ["b"] 1/3 < 1/2, ["c"] 5/9 < 4/7, ["d"] 2 > 4/2;', b"a\nb\nc\n"),
+            (b'PRINT ["a"] 1/0 = 1, ["b"] 1/0 != 1, ["c"] 1 <= 0/0, ["d"] !(1/0 = 1/0);', b"d\n"),
+            (b'PRINT ["a"] 65536 = 0/65536;', b""),
+            (b"PRINT Held(x) & (#(On(x,y)) = 3);", b"B7\n"),
+            (b"WHILE #(Held(x)) < 3 { Held(x) := Held(x) | EX(y, Held(y) & On(y,x)); } PRINT #(Held(x));", b"3"),
+            (b'IF #(Held(x))/#(On(x,_)) < 1/2 { PRINT "low"; } ELSE { PRINT "high"; }', b"low"),
+            (b"PRINT 6/*2*//3, 6// 2\n;", b"2/16"),
+            (b"PRINT " + b"0" * 26 + b"999999;", b"999999"),
+        ]:
+            ran = rc.run(FACTS, query)
+            self.assertEqual((ran.ending, ran.output), (Ending.DONE, page), query)
+            if page:
+                self.assertEqual(rc.run(FACTS, query, room=len(page) - 1).ending, Ending.FULL, query)
+        self.assertEqual(rc.run(None, b"PRINT #(TRUE(x)), #(TRUE());").output, b"01")
+
+    def test_refused_numbers(self):
+        for refusal, place, query in [
+            (Refusal.NUMBER, 6, b"PRINT 1000000;"),
+            (Refusal.NUMBER, 6, b"PRINT 0001000000;"),
+            (Refusal.NUMBER, 22, b"PRINT 1+1+1+1+1+1+1+1+1;"),
+            (Refusal.NUMBER, 21, b"IF 2/1+1+1+1+1+1+1+1+#(Held(x)) < 1 { P(); }"),
+            (Refusal.NUMBER, 19, b'PRINT zz, @"("(x), 1000000;'),
+            (Refusal.NO_TOKEN, 6, b"PRINT " + b"0" * 33 + b";"),
+            (Refusal.NO_PROGRAM, 9, b"PRINT On(1000000,x);"),
+            (Refusal.NO_PROGRAM, 7, b"PRINT !1=1;"),
+            (Refusal.NO_PROGRAM, 13, b'PRINT ["a"] 1;'),
+            (Refusal.FREE_ATTRIBUTES, 5, b"P(); PRINT #(TRUE(x,y,z,w));"),
+            (Refusal.FREE_ATTRIBUTES, 0, b"Q(x) := #(On(x,y)) > 1;"),
+        ]:
+            self.refused(refusal, place, rc.check, FACTS, query)
+            self.refused(refusal, place, rc.run, FACTS, query)
+            self.assertIsNone(rc.element(FACTS, query, 0))
+
+    def test_words_on_refused_numbers(self):
+        query = "IF #(Held(x)) > 1000000 { P(); }"
+        told = rc.explain(Refused(Refusal.NUMBER, 16), FACTS, query)
+        self.assertEqual((told.at.text, told.at.found), (Text.QUERY, b"1000000"))
+        self.says(told, "query:1:17: refused 19 at `1000000`: ", f"; here a number over 999,999\n  {query}\n  {' ' * 16}^")
+        query = "PRINT 1+1+1+1+1+1+1+1+#(Held(x));"
+        told = rc.explain(Refused(Refusal.NUMBER, 22), FACTS, query)
+        start = "query:1:23: refused 19 at `#`: a sum has at most 8 summands"
+        self.says(told, start, f"; here a ninth summand of one sum\n  {query}\n  {' ' * 22}^")
+        told = rc.explain(Refused(Refusal.NUMBER, 24), FACTS, "PRINT\n1+1+1+1+1+1+1+1\n+ 999999;")
+        self.says(told, "query:3:3: refused 19 at `999999`: ", "; here a ninth summand of one sum\n  + 999999;\n    ^")
+        told = rc.explain(Refused(Refusal.NO_TOKEN, 6), FACTS, b"PRINT " + b"1" * 33 + b";")
+        self.assertEqual((told.at.found, told.fault), (b"1" * 33, None))
+        told = rc.explain(Refused(Refusal.NO_PROGRAM, 9), FACTS, b"PRINT On(12x,y);")
+        self.says(told, "query:1:10: refused 10 at `12`: ", "\n  PRINT On(12x,y);\n           ^")
+
     def test_refused_patterns(self):
         for pattern, _, _ in NO_PATTERNS:
             self.refused(Refusal.PATTERN, 7, rc.check, FACTS, picking(pattern))
@@ -321,6 +377,7 @@ class Host(unittest.TestCase):
         self.refused(Refusal.FACT_BYTE, 7, rc.run, b"Held B7\r\r\n", QUERY)
         self.refused(Refusal.NO_TOKEN, 11, rc.run, FACTS, b"PRINT ENDL;\r\n")
         self.refused(Refusal.PATTERN, 7, rc.run, FACTS, b'PRINT @"C{3}"(x);')
+        self.refused(Refusal.NUMBER, 6, rc.run, FACTS, b"PRINT 1000000;")
 
     def test_refusals_in_words(self):
         told = self.told(Refusal.FREE_ATTRIBUTES, 21, FACTS, b"P();\n\tPRINT On(x,y);\nHeld(x) := On(x,y);")
@@ -376,7 +433,7 @@ class Host(unittest.TestCase):
 
     def test_words_on_any_text_and_place(self):
         texts = [b"", b"\r", b"\n\r\n", b"a\r\nb\r", b'"\r\n"', b"\r\r\n"]
-        for row, text, place in [(r, t, p) for r in [*range(1, 14), 18] for t in texts for p in range(len(t) + 2)]:
+        for row, text, place in [(r, t, p) for r in [*range(1, 14), 18, 19] for t in texts for p in range(len(t) + 2)]:
             told = rc.explain(Refused(Refusal(row), place), text, text)
             self.assertIsNone(told.fault, (row, text, place))
             at = told.at
@@ -416,6 +473,7 @@ class Host(unittest.TestCase):
         self.assertEqual([r.count for r in checked.relations], [64] + [1] * 15)
         ran = rc.run(facts, query, budget=2**32 - 1)
         self.assertEqual((ran.ending, ran.steps, len(ran.output), ran.counts), (Ending.DONE, 2, 64 * 8, [64, 64] + [1] * 14))
+        self.assertEqual(rc.run(facts, b'PRINT #(TRUE(x,y,z)), " ", #(R0(x,y,z)) / 64+64;').output, b"262144 1/2")
         ran = rc.run(facts, b"R0(x,y,z) := FALSE(x,y,z); R15(x,y,z);")
         self.assertEqual(ran.counts, [0] + [1] * 14 + [262144])
         self.assertEqual(rc.element(facts, query, 63).of(facts, query), b"e63")
@@ -437,7 +495,7 @@ class Host(unittest.TestCase):
             else:
                 continue
             checked += 1
-        self.assertEqual(checked, 47)
+        self.assertEqual(checked, 61)
         self.refused(Refusal.TOO_MANY_RELATIONS, 0, rc.check, "".join(f"R{i}\n" for i in range(16)), "New();")
         self.refused(Refusal.TOO_MANY_ELEMENTS, 5, rc.check, "".join(f"Held {i}\n" for i in range(64)), 'Held("New");')
 

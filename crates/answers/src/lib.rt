@@ -26,6 +26,7 @@ pub fn number(q: Refusal) -> usize
         Refusal::BufferShort => 16,
         Refusal::NoChain => 17,
         Refusal::Pattern(_) => 18,
+        Refusal::Number(_) => 19,
     }
 }
 
@@ -52,5 +53,6 @@ pub fn place(q: Refusal) -> usize
         Refusal::BufferShort => 0,
         Refusal::NoChain => 0,
         Refusal::Pattern(p) => p,
+        Refusal::Number(p) => p,
     }
 }

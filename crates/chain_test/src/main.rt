@@ -6,10 +6,10 @@ use chain::chain;
 use definition::Chained;
 use libc::STDOUT_FILENO;
 use lines::put;
+use lines::put_decimal;
 use lines::put_text;
 use listing::put_bytes;
 use listing::untouched;
-use page::put_digits;
 use page::put_refusal;
 use parts::part;
 
@@ -24,7 +24,7 @@ fn put_answer(line: &mut [u8], c: Chained) -> usize
     ensures { λ r. ⌜ r ≤ length (now (line .exit)) + 1 ⌝ }
 {
     match c {
-        Chained::Chain(count) => put_digits(line, 0, count as u64, 10),
+        Chained::Chain(count) => put_decimal(line, 0, count as u64, true),
         Chained::Refused(q) => put_refusal(line, q),
     }
 }
@@ -36,7 +36,7 @@ fn show_in(facts: &[u8], name: &[u8], first: &[u8], second: &[u8], buffer: &mut 
     let a = put_answer(&mut line, c);
     let b = put_bytes(&mut line, a, buffer);
     let t = put_text(&mut line, b, b", ", true);
-    let n = put_digits(&mut line, t, untouched(buffer) as u64, 10);
+    let n = put_decimal(&mut line, t, untouched(buffer) as u64, true);
     write_line(&mut line, n);
 }
 

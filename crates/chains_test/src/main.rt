@@ -6,9 +6,9 @@ use chains::find_chain;
 use definition::Chained;
 use libc::STDOUT_FILENO;
 use lines::put;
+use lines::put_decimal;
 use lines::put_text;
 use listing::put_bytes;
-use page::put_digits;
 use parts::part;
 
 // Ends the line at place n and writes it.
@@ -22,7 +22,7 @@ fn put_answer(line: &mut [u8], c: Chained) -> usize
     ensures { λ r. ⌜ r ≤ length (now (line .exit)) + 1 ⌝ }
 {
     match c {
-        Chained::Chain(count) => put_digits(line, 0, count as u64, 10),
+        Chained::Chain(count) => put_decimal(line, 0, count as u64, true),
         Chained::Refused(_) => put_text(line, 0, b"none", true),
     }
 }

@@ -8,7 +8,7 @@ use borrow.Author.Tests.{ne-eqb, eq-eqb, ltb-true, ltb-false}
 use lib.Dec.{ltb}
 use lib.ListN.{length, getD, take, drop}
 use Rattle.definition.specs.Text.{Text, member}
-use Rattle.definition.specs.Token.{Token}
+use Rattle.definition.specs.Token.{Token, value}
 use Rattle.definition.specs.Names.{attribute, relation, is-variable, variables}
 use Rattle.definition.specs.Tables.{bit}
 use Rattle.definition.specs.Pattern.{matches}
@@ -19,7 +19,7 @@ use Rattle.definition.proofs.RelationLaws.{place-of}
 use Rattle.definition.specs.Facts.{Ascending}
 use Rattle.words.specs.Fields.{word, ATTRIBUTE}
 use Rattle.words.specs.Raw.{number}
-use Rattle.words.specs.Tokens.{OwnName, OwnString}
+use Rattle.words.specs.Tokens.{OwnName, OwnString, OwnLiteral}
 use Rattle.words.proofs.FieldLaws.{kind-word, p-word}
 use Rattle.parts.specs.Packed.{text-of}
 use Rattle.parts.specs.Entries.{index}
@@ -35,15 +35,15 @@ use Rattle.free.proofs.Slotted.{slot}
 use Rattle.free.proofs.Trees.{after-other, at-start}
 use Rattle.rows.specs.Statements.{Setting}
 use Rattle.rows.proofs.Coding as Coding
-use Rattle.lowering.specs.Lowering.{at, halves, lower-at, Filled}
-use Rattle.lowering.specs.Agreement.{Element, found, missing, Agrees, Spelled, Halved}
+use Rattle.lowering.specs.Lowering.{at, number-of, token-values, lower-at, Filled}
+use Rattle.lowering.specs.Agreement.{Element, found, missing, Agrees, Spelled, Valued}
 use Rattle.lowering.proofs.FreeWords.{free-at}
 use Rattle.coding.specs.Pass.{token-part, string-code, name-code, code-of, Made}
 use Rattle.coded.proofs.Bytes.{byte-of, byte-scope, byte-name, name-range, scope-range}
-use Rattle.coded.proofs.Kept.{named-by, by-true, kept, kept-length, was-name, was-string}
+use Rattle.coded.proofs.Kept.{named-by, by-true, kept, kept-length, was-name, was-string, was-literal}
 use Rattle.coded.proofs.Codes.{attribute-number, loop-number, relation-number, place-known, part-is, index-found, index-none}
 use Rattle.coded.proofs.Halves.{half-bit}
-use Rattle.coded.proofs.Given.{Case, depths-before, halves-of, Place}
+use Rattle.coded.proofs.Given.{Case, depths-before, values-of, Place}
 
 module _ (C : Case) where
   -- the tokens of names
@@ -121,14 +121,21 @@ module _ (C : Case) where
             found (number-is ∙ index-found (C .facts) (C .query) part (C .places) ordered h) (omega (arith, h, as-many))
         go false e = missing (number-is ∙ index-none (C .facts) (C .query) part (C .places) (ltb-false place (length (C .places)) e)) refl
 
-    half-is : (a i : ℕ) → i < 32 → a + i < elements (C .w) → bit (halves-of C (number t) a % 4294967296) i ≡ matches (t .text) (getD (C .w .universe) (a + i) [])
-    unfolding halves
+    half-is : (a i : ℕ) → i < 32 → a + i < elements (C .w) → bit (values-of C .half (number t) a % 4294967296) i ≡ matches (t .text) (getD (C .w .universe) (a + i) [])
+    unfolding token-values
     half-is a i l h = rw (string-text, C .universe) (half-bit (t .text) (C .w .universe) a i l h)
 
     string-is : (f : Found) (depths : List ℕ)
         → code-of (C .facts) (C .query) (C .places) (C .tokens) (C .ids) (C .known) f depths (number t) ≡ string-code (C .facts) (C .query) (C .places) (C .tokens) (C .ids) (C .known) (number t)
     unfolding code-of
     string-is f depths = rw (eq-eqb (getD (C .tokens) (number t) 0 % 64) QUOTED quoted) refl
+
+  -- the tokens of literals
+  literal-is : (t : Token) → OwnLiteral (C .ts) t → values-of C .number (number t) ≡ value (t .text)
+  unfolding token-values number-of
+  literal-is t o =
+      let here : number t < length (C .tokens) = omega (arith, o .inside, C .stand .count) in
+      ap value (sym (C .stand .texts (number t) here) ∙ ap (λ (u : Token). u .text) (o .found))
 
   abbrev setting : Setting (C .words) (C .ids) (C .known)
   setting = record {
@@ -281,11 +288,14 @@ module _ (C : Case) where
       near = λ t o. C .near (number t) (string-here t (was-string takes-token (C .ts) t o .0));
     }
 
-    pub halved : Halved (C .w) own-tokens (halves-of C)
-    halved = record { set = λ t o a i l h. half-is t (was-string takes-token (C .ts) t o .0) a i l h }
+    pub valued : Valued (C .w) own-tokens (values-of C)
+    valued = record {
+      set = λ t o a i l h. half-is t (was-string takes-token (C .ts) t o .0) a i l h;
+      digits = λ t o. literal-is t (was-literal takes-token (C .ts) t o);
+    }
 
     -- the lowered words
-    pub filled : Filled (lower-at (at (C .words)) (at (M .codes)) (at (C .tokens)) (at (M .fr)) (halves-of C) (elements (C .w)) s) s (suc k) (C .low) (C .low)
+    pub filled : Filled (lower-at (at (C .words)) (at (M .codes)) (at (C .tokens)) (at (M .fr)) (values-of C) (elements (C .w)) s) s (suc k) (C .low) (C .low)
     filled = record {
       same-length = refl;
       inside = λ i l h. M .lowered i l (omega (arith, h));

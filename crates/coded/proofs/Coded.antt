@@ -24,6 +24,7 @@ use Rattle.definition.proofs.ArityLaws.{small-arities}
 use Rattle.definition.proofs.NestingLaws.{nested}
 use Rattle.definition.proofs.FormLaws.{formed}
 use Rattle.definition.proofs.RowLaws.{rows-ok}
+use Rattle.definition.proofs.QuantityLaws.{read-shaped}
 use Rattle.definition.proofs.BoolLaws.{contradiction}
 use Rattle.words.specs.Raw.{size-program, flat-program}
 use Rattle.words.specs.Standing.{Has}
@@ -147,6 +148,7 @@ module _ (facts query : Text) (w : Accepted) (tokens ids known relations words p
     nested = nested query p (A .query-read);
     rows = rows-ok (w .variables) p (subst (λ (v : Text → Bool). program-rows v p ≡ ok tt) (A .variables) (A .rows));
     formed = formed query p (A .query-read);
+    shaped = read-shaped query p (A .query-read);
     fit = names-fit document-01 (in-program p) (fact-kinds (L .read .relations)) k (L .names);
     lefts = λ x h. universe document-01 facts query w (L .accepted) .members x ∙ rw h refl;
   }

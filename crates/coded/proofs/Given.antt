@@ -18,7 +18,7 @@ use Rattle.parts.specs.Packed.{text-of}
 use Rattle.intern.specs.Entries.{start-of, Stand}
 use Rattle.kinds.specs.Resolved.{Stands}
 use Rattle.slots.proofs.Attributes.{Coded}
-use Rattle.lowering.specs.Lowering.{at, Halves, halves, closures-before}
+use Rattle.lowering.specs.Lowering.{at, TokenValues, token-values, closures-before}
 use Rattle.code.specs.Statements.{depth-in}
 use Rattle.coding.specs.Pass.{Depths, depths-at, names-between, Made, Passed}
 
@@ -36,7 +36,7 @@ pub record Case : Type 0 where
   pub count : ℕ
   pub kinds : Kinds
   pub ts : List Token
-  -- names and strings
+  -- names, strings and literals
   pub stand : Stand query tokens ts
   pub few : length ts < 65536
   pub small : length words < 65536
@@ -61,9 +61,9 @@ pub record Case : Type 0 where
 abbrev pub depths-before : Case → ℕ → Depths
 depths-before C n = depths-at (C .ids) (C .words) (C .first) n
 
--- the elements that match the pattern of a token
-abbrev pub halves-of : Case → Halves
-halves-of C = halves (C .facts) (C .query) (C .places) (at (C .tokens))
+-- what the texts of tokens come to
+abbrev pub values-of : Case → TokenValues
+values-of C = token-values (C .facts) (C .query) (C .places) (at (C .tokens))
 
 -- the statement whose words stand from s up to its own at k: its attribute names, its open loop variables and their depths
 pub record Place (C : Case) (scope : List Text) (s k : ℕ) (names : List Text) : Type 0 where

@@ -1,4 +1,5 @@
--- The tokens that the words of a statement name: all others are left out, so that a law over a list of tokens speaks of these alone.
+-- The tokens that the words of a statement name, and literals: all others are left out, so that a law over a list of tokens speaks of these
+-- alone.
 use Prim.Native.Nat.{ℕ, zero, suc, _+_, _<_, _≤_}
 use mathlib.Core.Path.{_≡_, refl, sym, ap, _∙_}
 use mathlib.Core.Bool.{Bool, true, false, cond, _&&_}
@@ -8,10 +9,10 @@ use borrow.Author.Tests.{eq-eqb, eqb-true, eqb-false}
 use lib.Dec.{eqb}
 use lib.ListN.{length, getD}
 use Rattle.definition.specs.Token as Token
-use Rattle.definition.specs.Token.{Token, token-at}
+use Rattle.definition.specs.Token.{Terminal, Token, token-at}
 use Rattle.words.specs.Fields.{kind-of, p-of}
 use Rattle.words.specs.Raw.{number}
-use Rattle.words.specs.Tokens.{OwnName, OwnString}
+use Rattle.words.specs.Tokens.{OwnName, OwnString, OwnLiteral}
 use Rattle.coding.specs.Pass.{is-named}
 
 -- a word from s on, before e, names the token t
@@ -54,17 +55,50 @@ true-by words (suc n) s t b = go (eqb s (b .place)) refl (λ h. true-by words n 
 abbrev none : Token
 none = record { terminal = Token.key 0; text = []; at = 0 }
 
--- the tokens of a list whose numbers a test takes, each at its place
+-- what is left of a token that no word names
+abbrev left-of : Terminal → Token → Token
+left-of (Token.name i) t = none
+left-of (Token.string i) t = none
+left-of (Token.number o i) t = t
+left-of (Token.sign g) t = none
+left-of (Token.key k) t = none
+
+abbrev unnamed : Token → Token
+unnamed t = left-of (t .terminal) t
+
+no-name : (c : Terminal) (t : Token) (i : ℕ) → t .terminal ≡ c → left-of c t .terminal ≡ Token.name i → ⊥
+no-name (Token.name j) t i e f = let z : _≡_ {A = ℕ} 0 1 = cc in omega arith
+no-name (Token.string j) t i e f = let z : _≡_ {A = ℕ} 0 1 = cc in omega arith
+no-name (Token.number o j) t i e f = let z : _≡_ {A = ℕ} 0 1 = cc in omega arith
+no-name (Token.sign g) t i e f = let z : _≡_ {A = ℕ} 0 1 = cc in omega arith
+no-name (Token.key k) t i e f = let z : _≡_ {A = ℕ} 0 1 = cc in omega arith
+
+no-string : (c : Terminal) (t : Token) (i : ℕ) → t .terminal ≡ c → left-of c t .terminal ≡ Token.string i → ⊥
+no-string (Token.name j) t i e f = let z : _≡_ {A = ℕ} 0 1 = cc in omega arith
+no-string (Token.string j) t i e f = let z : _≡_ {A = ℕ} 0 1 = cc in omega arith
+no-string (Token.number o j) t i e f = let z : _≡_ {A = ℕ} 0 1 = cc in omega arith
+no-string (Token.sign g) t i e f = let z : _≡_ {A = ℕ} 0 1 = cc in omega arith
+no-string (Token.key k) t i e f = let z : _≡_ {A = ℕ} 0 1 = cc in omega arith
+
+-- a literal that is left was one
+was-number : (c : Terminal) (t : Token) (o : Bool) (i : ℕ) → left-of c t .terminal ≡ Token.number o i → left-of c t ≡ t
+was-number (Token.name j) t o i f = absurd (let z : _≡_ {A = ℕ} 0 1 = cc in omega arith)
+was-number (Token.string j) t o i f = absurd (let z : _≡_ {A = ℕ} 0 1 = cc in omega arith)
+was-number (Token.number p j) t o i f = refl
+was-number (Token.sign g) t o i f = absurd (let z : _≡_ {A = ℕ} 0 1 = cc in omega arith)
+was-number (Token.key k) t o i f = absurd (let z : _≡_ {A = ℕ} 0 1 = cc in omega arith)
+
+-- the tokens of a list whose numbers a test takes, and the literals, each at its place
 unfoldable pub kept : (ℕ → Bool) → List Token → List Token
 kept b [] = []
-kept b (t ∷ ts) = cond (b 0) t none ∷ kept (λ i. b (suc i)) ts
+kept b (t ∷ ts) = cond (b 0) t (unnamed t) ∷ kept (λ i. b (suc i)) ts
 
 pub kept-length : (b : ℕ → Bool) (ts : List Token) → length (kept b ts) ≡ length ts
 unfolding kept
 kept-length b [] = refl
 kept-length b (t ∷ ts) = ap suc (kept-length (λ i. b (suc i)) ts)
 
-kept-at : (b : ℕ → Bool) (ts : List Token) (i : ℕ) → i < length ts → token-at (kept b ts) i ≡ cond (b i) (token-at ts i) none
+kept-at : (b : ℕ → Bool) (ts : List Token) (i : ℕ) → i < length ts → token-at (kept b ts) i ≡ cond (b i) (token-at ts i) (unnamed (token-at ts i))
 unfolding kept
 kept-at b [] i h = absurd (omega arith)
 kept-at b (t ∷ ts) zero h = refl
@@ -85,26 +119,42 @@ module _ (b : ℕ → Bool) (ts : List Token) where
     is-string = o .is-string;
   }
 
-  pub was-name : (t : Token) → OwnName (kept b ts) t → OwnName ts t × (b (number t) ≡ true)
-  was-name t o = go (b (number t)) (sym (kept-at b ts (number t) inside) ∙ o .found)
+  pub keep-literal : (t : Token) → OwnLiteral ts t → OwnLiteral (kept b ts) t
+  keep-literal t o = record {
+    found = kept-at b ts (number t) (o .inside) ∙ go (b (number t));
+    inside = rw (kept-length b ts) (o .inside);
+    over = o .over;
+    is-number = o .is-number;
+  }
     where
-      inside : number t < length ts
-      inside = rw (kept-length b ts) at (o .inside)
+      go : (x : Bool) → cond x (token-at ts (number t)) (unnamed (token-at ts (number t))) ≡ t
+      go true = o .found
+      go false = ap unnamed (o .found) ∙ ap (λ (c : Terminal). left-of c t) (o .is-number)
 
-      go : (x : Bool) → cond x (token-at ts (number t)) none ≡ t → OwnName ts t × (x ≡ true)
-      go true f = (record { found = f; inside = inside; is-name = o .is-name }, refl)
-      go false f =
-          let z : Token.key 0 ≡ Token.name (number t) = ap (λ (u : Token). u .terminal) f ∙ o .is-name in
-          absurd (let y : _≡_ {A = ℕ} 0 1 = cc in omega arith)
+  module _ (t : Token) (inside : number t < length (kept b ts)) (found : token-at (kept b ts) (number t) ≡ t) where
+    within : number t < length ts
+    within = rw (kept-length b ts) at inside
+
+    at-place : cond (b (number t)) (token-at ts (number t)) (unnamed (token-at ts (number t))) ≡ t
+    at-place = sym (kept-at b ts (number t) within) ∙ found
+
+  pub was-name : (t : Token) → OwnName (kept b ts) t → OwnName ts t × (b (number t) ≡ true)
+  was-name t o = go (b (number t)) (at-place t (o .inside) (o .found))
+    where
+      go : (x : Bool) → cond x (token-at ts (number t)) (unnamed (token-at ts (number t))) ≡ t → OwnName ts t × (x ≡ true)
+      go true f = (record { found = f; inside = within t (o .inside) (o .found); is-name = o .is-name }, refl)
+      go false f = absurd (no-name (token-at ts (number t) .terminal) (token-at ts (number t)) (number t) refl (ap (λ (u : Token). u .terminal) f ∙ o .is-name))
 
   pub was-string : (t : Token) → OwnString (kept b ts) t → OwnString ts t × (b (number t) ≡ true)
-  was-string t o = go (b (number t)) (sym (kept-at b ts (number t) inside) ∙ o .found)
+  was-string t o = go (b (number t)) (at-place t (o .inside) (o .found))
     where
-      inside : number t < length ts
-      inside = rw (kept-length b ts) at (o .inside)
+      go : (x : Bool) → cond x (token-at ts (number t)) (unnamed (token-at ts (number t))) ≡ t → OwnString ts t × (x ≡ true)
+      go true f = (record { found = f; inside = within t (o .inside) (o .found); is-string = o .is-string }, refl)
+      go false f = absurd (no-string (token-at ts (number t) .terminal) (token-at ts (number t)) (number t) refl (ap (λ (u : Token). u .terminal) f ∙ o .is-string))
 
-      go : (x : Bool) → cond x (token-at ts (number t)) none ≡ t → OwnString ts t × (x ≡ true)
-      go true f = (record { found = f; inside = inside; is-string = o .is-string }, refl)
-      go false f =
-          let z : Token.key 0 ≡ Token.string (number t) = ap (λ (u : Token). u .terminal) f ∙ o .is-string in
-          absurd (let y : _≡_ {A = ℕ} 0 1 = cc in omega arith)
+  pub was-literal : (t : Token) → OwnLiteral (kept b ts) t → OwnLiteral ts t
+  was-literal t o = record { found = go (b (number t)) (at-place t (o .inside) (o .found)); inside = within t (o .inside) (o .found); over = o .over; is-number = o .is-number }
+    where
+      go : (x : Bool) → cond x (token-at ts (number t)) (unnamed (token-at ts (number t))) ≡ t → token-at ts (number t) ≡ t
+      go true f = f
+      go false f = sym (was-number (token-at ts (number t) .terminal) (token-at ts (number t)) (o .over) (number t) (ap (λ (u : Token). u .terminal) f ∙ o .is-number)) ∙ f

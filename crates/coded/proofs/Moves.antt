@@ -19,12 +19,12 @@ use Rattle.words.specs.Raw.{number}
 use Rattle.words.specs.Tokens.{OwnName}
 use Rattle.words.proofs.FieldLaws.{kind-word}
 use Rattle.lowering.specs.Lowering.{at, lower-at, Filled}
-use Rattle.lowering.proofs.Places.{kind-at, target-q, range-q, next-q, loop-p}
+use Rattle.lowering.proofs.Places.{has-more, kind-at, plain-q, range-q, loop-p}
 use Rattle.machine.specs.Instructions.{ASSIGN, PRINT, TEST, AGAIN, RANGE, NEXT, JUMP, instr}
 use Rattle.machine.proofs.Decoding.{is-assign, is-print, is-test, is-again, is-range, is-next, is-jump}
 use Rattle.code.specs.Statements.{Whole}
 use Rattle.coding.specs.Pass.{is-named}
-use Rattle.coded.proofs.Given.{Case, depths-before, halves-of, Place}
+use Rattle.coded.proofs.Given.{Case, depths-before, values-of, Place}
 use Rattle.coded.proofs.Agreeing.{name-here, loop-code, code-at, filled}
 use Rattle.coded.proofs.Scoping.{word-takes}
 use Rattle.coded.proofs.Quiet.{depths-other}
@@ -36,7 +36,7 @@ unfolding is-named
 named-loops = (refl, refl)
 
 module _ (C : Case) (scope : List Text) (s k : ℕ) (names : List Text) (P : Place C scope s k names) where
-  abbrev F : Filled (lower-at (at (C .words)) (at (P .made .codes)) (at (C .tokens)) (at (P .made .fr)) (halves-of C) (elements (C .w)) s) s (suc k) (C .low) (C .low)
+  abbrev F : Filled (lower-at (at (C .words)) (at (P .made .codes)) (at (C .tokens)) (at (P .made .fr)) (values-of C) (elements (C .w)) s) s (suc k) (C .low) (C .low)
   F = filled C scope s k names P
 
   here : k < length (C .low)
@@ -44,10 +44,10 @@ module _ (C : Case) (scope : List Text) (s k : ℕ) (names : List Text) (P : Pla
 
   module _ (p q r : ℕ) (hp : p < 65536) (hq : q < 65536) where
     kind-is : (K : ℕ) → K < 256 → (K ≡ 11 → ⊥) → getD (C .words) k 0 ≡ word K p q r → kind-of (getD (C .low) k 0) ≡ K
-    kind-is K hK n e = kind-at (C .words) (P .made .codes) (C .tokens) (P .made .fr) (halves-of C) (elements (C .w)) s (suc k) (C .low) (C .low) F k K p q r hK hp hq (P .order) (omega arith) e n
+    kind-is K hK n e = kind-at (C .words) (P .made .codes) (C .tokens) (P .made .fr) (values-of C) (elements (C .w)) s (suc k) (C .low) (C .low) F k K p q r hK hp hq (P .order) (omega arith) e n
 
-    target-is : (K : ℕ) → K < 256 → 34 ≤ K → K < 38 → getD (C .words) k 0 ≡ word K p q r → q-of (getD (C .low) k 0) ≡ q
-    target-is K hK l h e = target-q (C .words) (P .made .codes) (C .tokens) (P .made .fr) (halves-of C) (elements (C .w)) s (suc k) (C .low) (C .low) F k K p q r hK hp hq (P .order) (omega arith) e l h
+    target-is : (K : ℕ) → K < 256 → has-more K ≡ false → getD (C .words) k 0 ≡ word K p q r → q-of (getD (C .low) k 0) ≡ q
+    target-is K hK m e = plain-q (C .words) (P .made .codes) (C .tokens) (P .made .fr) (values-of C) (elements (C .w)) s (suc k) (C .low) (C .low) F k K p q r hK hp hq (P .order) (omega arith) e m
 
     pub assign-instr : getD (C .words) k 0 ≡ word Fields.ASSIGN p q r → instr (C .low) k ≡ ASSIGN
     assign-instr e = is-assign (C .low) k here (kind-is Fields.ASSIGN (omega arith) (λ z. omega arith) e)
@@ -56,14 +56,14 @@ module _ (C : Case) (scope : List Text) (s k : ℕ) (names : List Text) (P : Pla
     print-instr e = is-print (C .low) k here (kind-is Fields.PRINT (omega arith) (λ z. omega arith) e)
 
     pub test-instr : getD (C .words) k 0 ≡ word Fields.TEST p q r → instr (C .low) k ≡ TEST q
-    test-instr e = is-test (C .low) k here (kind-is Fields.TEST (omega arith) (λ z. omega arith) e) ∙ ap TEST (target-is Fields.TEST (omega arith) (omega arith) (omega arith) e)
+    test-instr e = is-test (C .low) k here (kind-is Fields.TEST (omega arith) (λ z. omega arith) e) ∙ ap TEST (target-is Fields.TEST (omega arith) refl e)
 
     pub again-instr : getD (C .words) k 0 ≡ word Fields.AGAIN p q r → instr (C .low) k ≡ AGAIN q
-    again-instr e = is-again (C .low) k here (kind-is Fields.AGAIN (omega arith) (λ z. omega arith) e) ∙ ap AGAIN (target-is Fields.AGAIN (omega arith) (omega arith) (omega arith) e)
+    again-instr e = is-again (C .low) k here (kind-is Fields.AGAIN (omega arith) (λ z. omega arith) e) ∙ ap AGAIN (target-is Fields.AGAIN (omega arith) refl e)
 
     pub jump-instr : getD (C .words) k 0 ≡ word Fields.JUMP p q r → k < q → instr (C .low) k ≡ JUMP q
     jump-instr e h =
-        let t = target-is Fields.JUMP (omega arith) (omega arith) (omega arith) e in
+        let t = target-is Fields.JUMP (omega arith) refl e in
         is-jump (C .low) k here (kind-is Fields.JUMP (omega arith) (λ z. omega arith) e) (omega (arith, t, h)) ∙ ap JUMP t
 
   -- a FOR whose variable has the depth d
@@ -75,7 +75,7 @@ module _ (C : Case) (scope : List Text) (s k : ℕ) (names : List Text) (P : Pla
     depth-is K hK l h n e =
         let a = code-at C scope s k names P (number t) (name-here C t o) (word-takes C scope s k names P k K (number t) q r (P .order) (omega arith) hK n ht e) in
         let b = loop-code C t o (P .made .found) (depths-before C (suc k) .depths) loop in
-        let c = loop-p (C .words) (P .made .codes) (C .tokens) (P .made .fr) (halves-of C) (elements (C .w)) s (suc k) (C .low) (C .low) F k K (number t) q r hK ht hq (P .order) (omega arith) e l h in
+        let c = loop-p (C .words) (P .made .codes) (C .tokens) (P .made .fr) (values-of C) (elements (C .w)) s (suc k) (C .low) (C .low) F k K (number t) q r hK ht hq (P .order) (omega arith) e l h in
         let z : getD (P .made .codes) (number t) 0 ≡ 72 + d = a ∙ b ∙ ap (λ (j : ℕ). 72 + j) depth in
         let y : (72 + d - 72) % 65536 ≡ d = omega arith in
         let x : p-of (getD (C .low) k 0) ≡ d = c ∙ rw z y in
@@ -86,13 +86,13 @@ module _ (C : Case) (scope : List Text) (s k : ℕ) (names : List Text) (P : Pla
     range-instr e =
         is-range (C .low) k here (kind-is (number t) q r ht hq Fields.RANGE (omega arith) (λ z. omega arith) e)
         ∙ ap₂ RANGE (depth-is Fields.RANGE (omega arith) (omega arith) (omega arith) (named-loops .0) e)
-        (range-q (C .words) (P .made .codes) (C .tokens) (P .made .fr) (halves-of C) (elements (C .w)) s (suc k) (C .low) (C .low) F k Fields.RANGE (number t) q r (omega arith) ht hq (P .order) (omega arith) e refl)
+        (range-q (C .words) (P .made .codes) (C .tokens) (P .made .fr) (values-of C) (elements (C .w)) s (suc k) (C .low) (C .low) F k Fields.RANGE (number t) q r (omega arith) ht hq (P .order) (omega arith) e refl)
 
     pub next-instr : getD (C .words) k 0 ≡ word Fields.NEXT (number t) q r → instr (C .low) k ≡ NEXT d q
     next-instr e =
         is-next (C .low) k here (kind-is (number t) q r ht hq Fields.NEXT (omega arith) (λ z. omega arith) e)
         ∙ ap₂ NEXT (depth-is Fields.NEXT (omega arith) (omega arith) (omega arith) (named-loops .1) e)
-        (next-q (C .words) (P .made .codes) (C .tokens) (P .made .fr) (halves-of C) (elements (C .w)) s (suc k) (C .low) (C .low) F k Fields.NEXT (number t) q r (omega arith) ht hq (P .order) (omega arith) e refl)
+        (plain-q (C .words) (P .made .codes) (C .tokens) (P .made .fr) (values-of C) (elements (C .w)) s (suc k) (C .low) (C .low) F k Fields.NEXT (number t) q r (omega arith) ht hq (P .order) (omega arith) e refl)
 
 -- the variables of the open FORs are loop variables
 abbrev pub Loops : Case → List Text → Type 0

@@ -10,7 +10,7 @@ use lib.ListN.{length, getD}
 use Rattle.definition.specs.Text.{Text, same, member, some-of, all-of, gather}
 use Rattle.definition.specs.Token.{Token}
 use Rattle.definition.specs.Syntax.{Term, name, string, anything, Expression, Item}
-use Rattle.definition.specs.Names.{Use, attribute-only, in-terms, in-expression, in-item, attributes, free, closures, subset, item-expressions}
+use Rattle.definition.specs.Names.{Use, attribute-only, in-terms, in-expression, in-item, attributes, free, closures, counted-in, subset, item-expressions}
 use Rattle.definition.specs.Accept.{elements}
 use Rattle.definition.proofs.BoolLaws.{or-cases, or-left, contradiction}
 use Rattle.definition.proofs.MeaningLaws.{same-eq, same-refl}
@@ -18,6 +18,7 @@ use Rattle.definition.proofs.RelationLaws.{place-of}
 use Rattle.definition.proofs.ScopeLaws as Laws
 use Rattle.definition.proofs.ScopeLaws.{AllNamed, IsAttribute, IsRelation, ScopedExpression}
 use Rattle.definition.proofs.FormLaws.{FormedLefts, FormedItems}
+use Rattle.definition.proofs.QuantityLaws.{a-test, Shaped, ShapedItems}
 use Rattle.words.specs.Fields.{word, kind-of, p-of, q-of, RELATION-NAME, ATTRIBUTE, BIND, ANYTHING, STRING, TRUTH, FALSITY, CLOSURE, RANGE, ASSIGN, PRINT}
 use Rattle.words.specs.Raw.{number, leaves, size, flat, size-items, flat-items}
 use Rattle.words.specs.Tokens.{OwnName, OwnTerms, OwnExpression, OwnItems}
@@ -29,7 +30,7 @@ use Rattle.free.specs.Words.{is-leaf}
 use Rattle.free.proofs.Slotted.{Covered, covered-split}
 use Rattle.meaning.specs.Lowered.{Lowered}
 use Rattle.lowering.specs.Lowering.{at, term-byte, operands-at, all-stand, kind-field, closures-before, lower-at, Filled}
-use Rattle.lowering.specs.Agreement.{Scoped, Agrees, Halved}
+use Rattle.lowering.specs.Agreement.{Scoped, Agrees, Valued}
 use Rattle.lowering.proofs.Words.{term-small}
 use Rattle.lowering.proofs.Filling.{none-before}
 use Rattle.lowering.proofs.Terms.{slot-byte}
@@ -41,9 +42,9 @@ use Rattle.prints.specs.Lowered.{PrintLowered}
 use Rattle.actions.specs.Doing.{columns-of}
 use Rattle.code.specs.Statements.{TestCode, RangeCode, AssignCode, PrintCode}
 use Rattle.coded.proofs.Bytes.{named}
-use Rattle.coded.proofs.Given.{Case, halves-of, Place}
-use Rattle.coded.proofs.Agreeing.{own-tokens, In, β, Clear, short, apart, clear-first, agrees, spelled, halved, filled}
-use Rattle.coded.proofs.Scoping.{Closed, Placed, scoped, scoped-lefts, scoped-items, known-relation}
+use Rattle.coded.proofs.Given.{Case, values-of, Place}
+use Rattle.coded.proofs.Agreeing.{own-tokens, In, β, Clear, short, apart, clear-first, agrees, spelled, valued, filled}
+use Rattle.coded.proofs.Scoping.{Closed, Counted, Placed, scoped, scoped-lefts, scoped-items, known-relation}
 
 -- lists of no and of one name
 no-names : (xs : List Text) → length xs ≡ 0 → xs ≡ []
@@ -94,10 +95,10 @@ module _ (C : Case) (scope : List Text) (s k : ℕ) (names : List Text) (P : Pla
   abbrev G : Agrees (C .w) ts′ scope I b (Clear C scope s k names P) (C .words) (P .made .codes) (P .made .fr) s (suc k)
   G = agrees C scope s k names P
 
-  abbrev N : Halved (C .w) ts′ (halves-of C)
-  N = halved C scope s k names P
+  abbrev N : Valued (C .w) ts′ (values-of C)
+  N = valued C scope s k names P
 
-  abbrev F : Filled (lower-at (at (C .words)) (at (P .made .codes)) (at (C .tokens)) (at (P .made .fr)) (halves-of C) (elements (C .w)) s) s (suc k) (C .low) (C .low)
+  abbrev F : Filled (lower-at (at (C .words)) (at (P .made .codes)) (at (C .tokens)) (at (P .made .fr)) (values-of C) (elements (C .w)) s) s (suc k) (C .low) (C .low)
   F = filled C scope s k names P
 
   abbrev Cl : ℕ → Type 0
@@ -109,7 +110,7 @@ module _ (C : Case) (scope : List Text) (s k : ℕ) (names : List Text) (P : Pla
   -- an expression of the statement
   lowered : (e : Expression) (n : ℕ) → 0 ≡ before n → Scoped (C .w) ts′ scope I e → s ≤ n → n + size e ≤ suc k → Cl n → Has (C .words) n (flat e n) → Lowered (C .w) b scope (C .low) e n 0
   lowered e n c o l h cl x =
-      lowered-expression (C .w) ts′ scope I b Cl (C .words) (P .made .codes) (C .tokens) (P .made .fr) (halves-of C) s (suc k) G N (C .low) (C .low) F e n 0 c o l h cl x
+      lowered-expression (C .w) ts′ scope I b Cl (C .words) (P .made .codes) (C .tokens) (P .made .fr) (values-of C) s (suc k) G N (C .low) (C .low) F e n 0 c o l h cl x
 
   none-first : 0 ≡ before s
   none-first = sym (none-before (at (C .words)) s s (omega arith))
@@ -119,7 +120,7 @@ module _ (C : Case) (scope : List Text) (s k : ℕ) (names : List Text) (P : Pla
   unfolding kind-field
   no-closure i l h n z =
       go (eqb (kind-of (getD (C .words) i 0)) TRUTH) (all-stand (at (C .words)) (at (P .made .codes)) (elements (C .w)) (q-of (getD (C .words) i 0)) (p-of (getD (C .words) i 0)))
-      (sym (kind-field-at (C .words) (P .made .codes) (C .tokens) (P .made .fr) (halves-of C) (elements (C .w)) s (suc k) (C .low) (C .low) F i l (omega arith)) ∙ z)
+      (sym (kind-field-at (C .words) (P .made .codes) (C .tokens) (P .made .fr) (values-of C) (elements (C .w)) s (suc k) (C .low) (C .low) F i l (omega arith)) ∙ z)
     where
       go : (p q : Bool) → cond p (cond q TRUTH FALSITY) (kind-of (getD (C .words) i 0)) ≡ CLOSURE → ⊥
       go true true e = omega arith
@@ -143,22 +144,22 @@ module _ (C : Case) (scope : List Text) (s k : ℕ) (names : List Text) (P : Pla
   after-lefts [] n f l h cl z x = let e : n + 0 ≡ n = omega arith in rw e (cl, z)
   after-lefts (name t ∷ ps) n f l h cl z x =
       let e : n + suc (length ps) ≡ n + 1 + length ps = omega arith in
-      let q = name-before (C .w) ts′ scope I b Cl (C .words) (P .made .codes) (C .tokens) (P .made .fr) (halves-of C) s (suc k) G N (C .low) (C .low) F n ATTRIBUTE (number t) 0 0 l (x .0) (omega arith) (λ y. omega arith) in
+      let q = name-before (C .w) ts′ scope I b Cl (C .words) (P .made .codes) (C .tokens) (P .made .fr) (values-of C) s (suc k) G N (C .low) (C .low) F n ATTRIBUTE (number t) 0 0 l (x .0) (omega arith) (λ y. omega arith) in
       rw e (after-lefts ps (n + 1) (f .1) (omega arith) (omega arith) (G .others n ATTRIBUTE (number t) 0 0 l (omega arith) (omega arith) (leaf-kinds .1) (x .0)) (z ∙ sym q) (x .1))
   after-lefts (string t ∷ ps) n f l h cl z x =
       let e : n + suc (length ps) ≡ n + 1 + length ps = omega arith in
-      let q = name-before (C .w) ts′ scope I b Cl (C .words) (P .made .codes) (C .tokens) (P .made .fr) (halves-of C) s (suc k) G N (C .low) (C .low) F n (STRING + ATTRIBUTE) (number t) 0 0 l (x .0) (omega arith) (λ y. omega arith) in
+      let q = name-before (C .w) ts′ scope I b Cl (C .words) (P .made .codes) (C .tokens) (P .made .fr) (values-of C) s (suc k) G N (C .low) (C .low) F n (STRING + ATTRIBUTE) (number t) 0 0 l (x .0) (omega arith) (λ y. omega arith) in
       rw e (after-lefts ps (n + 1) (f .1) (omega arith) (omega arith) (G .others n (STRING + ATTRIBUTE) (number t) 0 0 l (omega arith) (omega arith) (leaf-kinds .2) (x .0)) (z ∙ sym q) (x .1))
   after-lefts (anything ∷ ps) n f l h cl z x = absurd (f .0)
 
   -- a test
-  pub test-code : (e : Expression) → ScopedExpression (C .kinds) scope e → OwnExpression (C .ts) e → Covers (in-expression e) → Closed v (closures e) → length (free v e) ≡ 0 → k ≡ s + size e → Has (C .words) s (flat e s)
+  pub test-code : (e : Expression) → ScopedExpression (C .kinds) scope e → Shaped a-test e → OwnExpression (C .ts) e → Covers (in-expression e) → Closed v (closures e) → Counted v (counted-in e) → length (free v e) ≡ 0 → k ≡ s + size e → Has (C .words) s (flat e s)
       → TestCode (C .w) (C .query) (C .low) scope s k e
-  test-code e S o c cl f ek x = record {
+  test-code e S g o c cl ct f ek x = record {
     β = b;
     named = named scope names (P .shallow) (short C scope s k names P);
     own = ek;
-    words = lowered e s none-first (scoped C scope s k names P e s S o c cl (omega arith) (omega arith) x) (omega arith) (omega arith) (clear-first C scope s k names P) x;
+    words = lowered e s none-first (scoped C scope s k names P e g s S o c cl ct (omega arith) (omega arith) x) (omega arith) (omega arith) (clear-first C scope s k names P) x;
     none = no-names (free v e) f;
   }
 
@@ -167,11 +168,11 @@ module _ (C : Case) (scope : List Text) (s k : ℕ) (names : List Text) (P : Pla
   one-digit xs a ea = rw ea refl
 
   -- a FOR's set
-  pub range-code : (i l t : ℕ) (e : Expression) → ScopedExpression (C .kinds) scope e → OwnExpression (C .ts) e → Covers (in-expression e) → Closed v (closures e) → length (free v e) ≡ 1 → k ≡ s + 1 + size e
+  pub range-code : (i l t : ℕ) (e : Expression) → ScopedExpression (C .kinds) scope e → Shaped a-test e → OwnExpression (C .ts) e → Covers (in-expression e) → Closed v (closures e) → Counted v (counted-in e) → length (free v e) ≡ 1 → k ≡ s + 1 + size e
       → t < 65536 → l < 65536 → getD (C .words) s 0 ≡ word BIND t 0 0 → Has (C .words) (s + 1) (flat e (s + 1)) → getD (C .words) k 0 ≡ word RANGE t l i → RangeCode (C .w) (C .query) (C .low) scope s k e
-  range-code i l t e S o c cl f ek ht hl y x own =
-      let S′ = scoped C scope s k names P e (s + 1) S o c cl (omega arith) (omega arith) x in
-      let q = name-before (C .w) ts′ scope I b Cl (C .words) (P .made .codes) (C .tokens) (P .made .fr) (halves-of C) s (suc k) G N (C .low) (C .low) F s BIND t 0 0 (omega arith) y (omega arith) (λ z. omega arith) in
+  range-code i l t e S sh o c cl ct f ek ht hl y x own =
+      let S′ = scoped C scope s k names P e sh (s + 1) S o c cl ct (omega arith) (omega arith) x in
+      let q = name-before (C .w) ts′ scope I b Cl (C .words) (P .made .codes) (C .tokens) (P .made .fr) (values-of C) s (suc k) G N (C .low) (C .low) F s BIND t 0 0 (omega arith) y (omega arith) (λ z. omega arith) in
       let clear = G .others s BIND t 0 0 (omega arith) (omega arith) (omega arith) (leaf-kinds .3) y in
       let A = G .frees e (s + 1) S′ (omega arith) (omega arith) clear x in
       let (a, ea) = one-name (free v e) f in
@@ -179,7 +180,7 @@ module _ (C : Case) (scope : List Text) (s k : ℕ) (names : List Text) (P : Pla
       let g = G .slots a m in
       let j : k - 1 ≡ s + 1 + size e - 1 = omega arith in
       let val : getD (P .made .fr) (k - 1) 0 ≡ b a - 63 + 8 * 0 = rw j (A .value ∙ one-digit (free v e) a ea) in
-      let cc′ : c-of (getD (C .low) k 0) ≡ getD (P .made .fr) (k - 1) 0 % 8 - 1 = range-c (C .words) (P .made .codes) (C .tokens) (P .made .fr) (halves-of C) (elements (C .w)) s (suc k) (C .low) (C .low) F k RANGE t l i (omega arith) ht hl (omega arith) (omega arith) own refl in
+      let cc′ : c-of (getD (C .low) k 0) ≡ getD (P .made .fr) (k - 1) 0 % 8 - 1 = range-c (C .words) (P .made .codes) (C .tokens) (P .made .fr) (values-of C) (elements (C .w)) s (suc k) (C .low) (C .low) F k RANGE t l i (omega arith) ht hl (omega arith) (omega arith) own refl in
       record {
         β = b;
         named = named scope names (P .shallow) (short C scope s k names P);
@@ -204,10 +205,10 @@ module _ (C : Case) (scope : List Text) (s k : ℕ) (names : List Text) (P : Pla
   columns-are i n hn own =
       let small : (j : ℕ) → byte j < 256 = λ j. term-small (at (C .words)) (at (P .made .codes)) (at (C .tokens)) (at (P .made .fr)) 0 (getD (C .words) j 0) in
       let hs : s < 65536 = omega (arith, P .order, P .inside, C .small) in
-      let ea = assign-a (C .words) (P .made .codes) (C .tokens) (P .made .fr) (halves-of C) (elements (C .w)) s (suc k) (C .low) (C .low) F k ASSIGN s n i (omega arith) hs hn (P .order) (omega arith) own refl in
-      let eb = assign-b (C .words) (P .made .codes) (C .tokens) (P .made .fr) (halves-of C) (elements (C .w)) s (suc k) (C .low) (C .low) F k ASSIGN s n i (omega arith) hs hn (P .order) (omega arith) own refl in
-      let ec = assign-c (C .words) (P .made .codes) (C .tokens) (P .made .fr) (halves-of C) (elements (C .w)) s (suc k) (C .low) (C .low) F k ASSIGN s n i (omega arith) hs hn (P .order) (omega arith) own refl in
-      let ed = assign-d (C .words) (P .made .codes) (C .tokens) (P .made .fr) (halves-of C) (elements (C .w)) s (suc k) (C .low) (C .low) F k ASSIGN s n i (omega arith) hs hn (P .order) (omega arith) own refl in
+      let ea = assign-a (C .words) (P .made .codes) (C .tokens) (P .made .fr) (values-of C) (elements (C .w)) s (suc k) (C .low) (C .low) F k ASSIGN s n i (omega arith) hs hn (P .order) (omega arith) own refl in
+      let eb = assign-b (C .words) (P .made .codes) (C .tokens) (P .made .fr) (values-of C) (elements (C .w)) s (suc k) (C .low) (C .low) F k ASSIGN s n i (omega arith) hs hn (P .order) (omega arith) own refl in
+      let ec = assign-c (C .words) (P .made .codes) (C .tokens) (P .made .fr) (values-of C) (elements (C .w)) s (suc k) (C .low) (C .low) F k ASSIGN s n i (omega arith) hs hn (P .order) (omega arith) own refl in
+      let ed = assign-d (C .words) (P .made .codes) (C .tokens) (P .made .fr) (values-of C) (elements (C .w)) s (suc k) (C .low) (C .low) F k ASSIGN s n i (omega arith) hs hn (P .order) (omega arith) own refl in
       let A = byte (s + 1) in
       let B = byte (s + 1 + 1) in
       let D = byte (s + 1 + 2) in
@@ -216,19 +217,19 @@ module _ (C : Case) (scope : List Text) (s k : ℕ) (names : List Text) (P : Pla
       (ap₂ (λ (p q : ℕ). p ∷ q ∷ []) (ea ∙ byte-a A B D E (small (s + 1))) (eb ∙ byte-b A B D E (small (s + 1)) (small (s + 1 + 1))))
       (ap₂ (λ (p q : ℕ). p ∷ q ∷ []) (ec ∙ byte-c A B D E (small (s + 1)) (small (s + 1 + 1)) (small (s + 1 + 2))) (ed ∙ byte-d A B D E (small (s + 1)) (small (s + 1 + 1)) (small (s + 1 + 2))))
 
-  pub assign-code : (i : ℕ) (r : Token) (ps : List Term) (e : Expression) → IsRelation (C .kinds) (r .text) (length ps) → AllNamed (IsAttribute (C .kinds)) ps → ScopedExpression (C .kinds) scope e → FormedLefts ps → Placed (C .w .universe) ps
-      → OwnName (C .ts) r → OwnTerms (C .ts) ps → OwnExpression (C .ts) e → Covers (in-terms attribute-only ps ++ in-expression e) → Closed v (closures e) → subset (free v e) (attributes v ps) ≡ true → k ≡ s + 1 + length ps + size e
+  pub assign-code : (i : ℕ) (r : Token) (ps : List Term) (e : Expression) → IsRelation (C .kinds) (r .text) (length ps) → AllNamed (IsAttribute (C .kinds)) ps → ScopedExpression (C .kinds) scope e → Shaped a-test e → FormedLefts ps → Placed (C .w .universe) ps
+      → OwnName (C .ts) r → OwnTerms (C .ts) ps → OwnExpression (C .ts) e → Covers (in-terms attribute-only ps ++ in-expression e) → Closed v (closures e) → Counted v (counted-in e) → subset (free v e) (attributes v ps) ≡ true → k ≡ s + 1 + length ps + size e
       → getD (C .words) s 0 ≡ word RELATION-NAME (number r) (length ps) 0 → Has (C .words) (s + 1) (leaves ATTRIBUTE ps) → Has (C .words) (s + 1 + length ps) (flat e (s + 1 + length ps)) → getD (C .words) k 0 ≡ word ASSIGN s (length ps) i
       → AssignCode (C .w) (C .query) (C .low) scope s k r ps e
-  assign-code i r ps e R L S f u or op oe c cl sub ek y yl x own =
+  assign-code i r ps e R L S sh f u or op oe c cl ct sub ek y yl x own =
       let d = covered-split names v (apart C scope s k names P) (in-terms attribute-only ps) (in-expression e) c in
       let K = known-relation C scope s k names P r ps s R or (omega arith) (omega arith) y in
       let lefts = scoped-lefts C scope s k names P ps (s + 1) L f u op (d .0) (omega arith) (omega arith) yl in
-      let S′ = scoped C scope s k names P e (s + 1 + length ps) S oe (d .1) cl (omega arith) (omega arith) x in
+      let S′ = scoped C scope s k names P e sh (s + 1 + length ps) S oe (d .1) cl ct (omega arith) (omega arith) x in
       let hs : s < 65536 = omega (arith, P .order, P .inside, C .small) in
       let hn : length ps < 65536 = omega (arith, K .short) in
       let hr : number r < 65536 = omega (arith, or .inside, C .few) in
-      let q = name-before (C .w) ts′ scope I b Cl (C .words) (P .made .codes) (C .tokens) (P .made .fr) (halves-of C) s (suc k) G N (C .low) (C .low) F s RELATION-NAME (number r) (length ps) 0 (omega arith) y (omega arith) (λ z. omega arith) in
+      let q = name-before (C .w) ts′ scope I b Cl (C .words) (P .made .codes) (C .tokens) (P .made .fr) (values-of C) s (suc k) G N (C .low) (C .low) F s RELATION-NAME (number r) (length ps) 0 (omega arith) y (omega arith) (λ z. omega arith) in
       let clear = G .others s RELATION-NAME (number r) (length ps) 0 (omega arith) (omega arith) (omega arith) (leaf-kinds .0) y in
       let after = after-lefts ps (s + 1) f (omega arith) (omega arith) clear (none-first ∙ sym q) yl in
       let pr : p-of (getD (C .words) s 0) ≡ number r = rw y (p-word RELATION-NAME (number r) (length ps) 0 (omega arith) hr) in
@@ -240,12 +241,12 @@ module _ (C : Case) (scope : List Text) (s k : ℕ) (names : List Text) (P : Pla
         own = ek;
         first = go;
         words = lowered e (s + 1 + length ps) (after .1) S′ (omega arith) (omega arith) (after .0) x;
-        number = assign-p (C .words) (P .made .codes) (C .tokens) (P .made .fr) (halves-of C) (elements (C .w)) s (suc k) (C .low) (C .low) F k ASSIGN s (length ps) i (omega arith) hs hn (P .order) (omega arith) own refl
+        number = assign-p (C .words) (P .made .codes) (C .tokens) (P .made .fr) (values-of C) (elements (C .w)) s (suc k) (C .low) (C .low) F k ASSIGN s (length ps) i (omega arith) hs hn (P .order) (omega arith) own refl
             ∙ rw (pr, G .relations r (K .own) (K .known)) m;
         known = K .known;
         arity = K .arity;
         short = K .short;
-        count = assign-n (C .words) (P .made .codes) (C .tokens) (P .made .fr) (halves-of C) (elements (C .w)) s (suc k) (C .low) (C .low) F k ASSIGN s (length ps) i (omega arith) hs hn (P .order) (omega arith) own refl ∙ n;
+        count = assign-n (C .words) (P .made .codes) (C .tokens) (P .made .fr) (values-of C) (elements (C .w)) s (suc k) (C .low) (C .low) F k ASSIGN s (length ps) i (omega arith) hs hn (P .order) (omega arith) own refl ∙ n;
         In = I;
         slots = λ z h. (G .slots z h .0, omega (arith, G .slots z h .1));
         columns = rw (columns-are i (length ps) hn own) (left-coded (C .w) ts′ scope I b Cl (C .words) (P .made .codes) (P .made .fr) s (suc k) G ps (s + 1) (K .short) lefts yl);
@@ -256,15 +257,15 @@ module _ (C : Case) (scope : List Text) (s k : ℕ) (names : List Text) (P : Pla
       go zero h = let z : s + 0 ≡ s = omega arith in rw z (name-closure s RELATION-NAME (number r) (length ps) 0 (omega arith) (omega (arith, ek)) (omega arith) (λ y. omega arith) y)
       go (suc n) h = let z : s + suc n ≡ s + 1 + n = omega arith in rw z (left-closure ps (s + 1) n (omega arith) (omega (arith, ek)) yl (omega arith))
 
-  pub print-code : (i : ℕ) (is : List Item) → Laws.ScopedItems (C .kinds) scope is → FormedItems is → OwnItems (C .ts) is → Covers (gather in-item is) → Closed v (gather closures (gather item-expressions is)) → k ≡ s + size-items is → i < 65536
+  pub print-code : (i : ℕ) (is : List Item) → Laws.ScopedItems (C .kinds) scope is → FormedItems is → ShapedItems is → OwnItems (C .ts) is → Covers (gather in-item is) → Closed v (gather closures (gather item-expressions is)) → Counted v (gather counted-in (gather item-expressions is)) → k ≡ s + size-items is → i < 65536
       → Has (C .words) s (flat-items is s) → getD (C .words) k 0 ≡ word PRINT s 0 i → PrintCode (C .w) (C .query) (C .low) scope s k is
-  print-code i is S f o c cl ek hi x own =
-      let S′ = scoped-items C scope s k names P is s S f o c cl (omega arith) (omega arith) x in
+  print-code i is S f g o c cl ct ek hi x own =
+      let S′ = scoped-items C scope s k names P is s S f g o c cl ct (omega arith) (omega arith) x in
       let hs : s < 65536 = omega (arith, P .order, P .inside, C .small) in
       record {
         β = b;
         named = named scope names (P .shallow) (short C scope s k names P);
         own = ek;
-        first = print-p (C .words) (P .made .codes) (C .tokens) (P .made .fr) (halves-of C) (elements (C .w)) s (suc k) (C .low) (C .low) F k PRINT s 0 i (omega arith) hs (omega arith) (P .order) (omega arith) own refl;
-        words = subst (λ (j : ℕ). PrintLowered (C .w) b scope (C .low) (C .query) is j) (sym ek) (lowered-print (C .w) ts′ scope I b Cl (C .words) (P .made .codes) (C .tokens) (P .made .fr) (halves-of C) s (suc k) G N (C .query) (spelled C scope s k names P) (C .low) (C .low) F i is hi S′ (omega arith) (clear-first C scope s k names P) x (rw (← ek) own));
+        first = print-p (C .words) (P .made .codes) (C .tokens) (P .made .fr) (values-of C) (elements (C .w)) s (suc k) (C .low) (C .low) F k PRINT s 0 i (omega arith) hs (omega arith) (P .order) (omega arith) own refl;
+        words = subst (λ (j : ℕ). PrintLowered (C .w) b scope (C .low) (C .query) is j) (sym ek) (lowered-print (C .w) ts′ scope I b Cl (C .words) (P .made .codes) (C .tokens) (P .made .fr) (values-of C) s (suc k) G N (C .query) (spelled C scope s k names P) (C .low) (C .low) F i is hi S′ (omega arith) (clear-first C scope s k names P) x (rw (← ek) own));
       }

@@ -17,6 +17,7 @@ use Rattle.definition.proofs.ScopeLaws.{ScopedProgram}
 use Rattle.definition.proofs.NestingLaws.{Nested}
 use Rattle.definition.proofs.RowLaws.{RowsOk}
 use Rattle.definition.proofs.FormLaws.{Formed}
+use Rattle.definition.proofs.QuantityLaws.{ShapedProgram}
 use Rattle.words.specs.Tokens.{OwnProgram}
 use Rattle.coded.proofs.Given.{Case}
 use Rattle.coded.proofs.Scoping.{Placed}
@@ -73,37 +74,40 @@ module _ (C : Case) where
     pub nested : Nested (length scope) p
     pub rows : RowsOk v p
     pub formed : Formed p
+    pub shaped : ShapedProgram p
     pub fit : Fitting (C .kinds .known) (in-program p)
     pub lefts : Lefts (C .w .universe) (left-strings p)
 
   -- the rest of a program after an assignment and after a PRINT
   pub fine-assign : {scope : List Text} {i : ℕ} {r : Token} {ps : List Term} {e : Expression} {q : Program} → Fine scope (assign i r ps e q) → Fine scope q
-  unfolding OwnProgram ScopedProgram Nested RowsOk Formed in-program left-strings
+  unfolding OwnProgram ScopedProgram Nested RowsOk Formed ShapedProgram in-program left-strings
   fine-assign {scope} {i} {r} {ps} {e} {q} F = record {
     own = F .own .4;
     scoped = F .scoped .1 .1 .1;
     nested = F .nested;
     rows = F .rows .1 .1 .1;
     formed = F .formed .1;
+    shaped = F .shaped .1;
     fit = fitting-right (in-expression e) (in-program q) (fitting-right (in-terms attribute-only ps) (in-expression e ++ in-program q) (fit-tail (F .fit)));
     lefts = lefts-right (C .w .universe) (strings ps) (left-strings q) (F .lefts);
   }
 
   pub fine-print : {scope : List Text} {i : ℕ} {is : List Item} {q : Program} → Fine scope (print i is q) → Fine scope q
-  unfolding OwnProgram ScopedProgram Nested RowsOk Formed in-program left-strings
+  unfolding OwnProgram ScopedProgram Nested RowsOk Formed ShapedProgram in-program left-strings
   fine-print {scope} {i} {is} {q} F = record {
     own = F .own .2;
     scoped = F .scoped .1;
     nested = F .nested;
     rows = F .rows .1 .1;
     formed = F .formed .1;
+    shaped = F .shaped .1;
     fit = fitting-right (gather in-item is) (in-program q) (F .fit);
     lefts = F .lefts;
   }
 
   -- the parts of an IF
   pub fine-test : {scope : List Text} {i : ℕ} {e : Expression} {a b q : Program} → Fine scope (test i e a b q) → Fine scope a × (Fine scope b × Fine scope q)
-  unfolding OwnProgram ScopedProgram Nested RowsOk Formed in-program left-strings
+  unfolding OwnProgram ScopedProgram Nested RowsOk Formed ShapedProgram in-program left-strings
   fine-test {scope} {i} {e} {a} {b} {q} F =
       let f₁ = fitting-right (in-expression e) (in-program a ++ (in-program b ++ in-program q)) (F .fit) in
       let f₂ = fitting-right (in-program a) (in-program b ++ in-program q) f₁ in
@@ -114,6 +118,7 @@ module _ (C : Case) where
           nested = F .nested .0;
           rows = F .rows .1 .1 .0;
           formed = F .formed .0;
+          shaped = F .shaped .1 .0;
           fit = fitting-left (in-program a) (in-program b ++ in-program q) f₁;
           lefts = lefts-left (C .w .universe) (left-strings a) (left-strings b ++ left-strings q) (F .lefts);
         },
@@ -124,6 +129,7 @@ module _ (C : Case) where
             nested = F .nested .1 .0;
             rows = F .rows .1 .1 .1 .0;
             formed = F .formed .1 .0;
+            shaped = F .shaped .1 .1 .0;
             fit = fitting-left (in-program b) (in-program q) f₂;
             lefts = lefts-left (C .w .universe) (left-strings b) (left-strings q) l₂;
           },
@@ -133,6 +139,7 @@ module _ (C : Case) where
             nested = F .nested .1 .1;
             rows = F .rows .1 .1 .1 .1;
             formed = F .formed .1 .1;
+            shaped = F .shaped .1 .1 .1;
             fit = fitting-right (in-program b) (in-program q) f₂;
             lefts = lefts-right (C .w .universe) (left-strings b) (left-strings q) l₂;
           },
@@ -140,7 +147,7 @@ module _ (C : Case) where
       )
 
   pub fine-while : {scope : List Text} {i : ℕ} {e : Expression} {a q : Program} → Fine scope (while i e a q) → Fine scope a × Fine scope q
-  unfolding OwnProgram ScopedProgram Nested RowsOk Formed in-program left-strings
+  unfolding OwnProgram ScopedProgram Nested RowsOk Formed ShapedProgram in-program left-strings
   fine-while {scope} {i} {e} {a} {q} F =
       let f₁ = fitting-right (in-expression e) (in-program a ++ in-program q) (F .fit) in (
         record {
@@ -149,6 +156,7 @@ module _ (C : Case) where
           nested = F .nested .0;
           rows = F .rows .1 .1 .0;
           formed = F .formed .0;
+          shaped = F .shaped .1 .0;
           fit = fitting-left (in-program a) (in-program q) f₁;
           lefts = lefts-left (C .w .universe) (left-strings a) (left-strings q) (F .lefts);
         },
@@ -158,13 +166,14 @@ module _ (C : Case) where
           nested = F .nested .1;
           rows = F .rows .1 .1 .1;
           formed = F .formed .1;
+          shaped = F .shaped .1 .1;
           fit = fitting-right (in-program a) (in-program q) f₁;
           lefts = lefts-right (C .w .universe) (left-strings a) (left-strings q) (F .lefts);
         },
       )
 
   pub fine-for : {scope : List Text} {i : ℕ} {t : Token} {e : Expression} {a q : Program} → Fine scope (for i t e a q) → Fine (t .text ∷ scope) a × Fine scope q
-  unfolding OwnProgram ScopedProgram Nested RowsOk Formed in-program left-strings
+  unfolding OwnProgram ScopedProgram Nested RowsOk Formed ShapedProgram in-program left-strings
   fine-for {scope} {i} {t} {e} {a} {q} F =
       let f₁ = fit-tail (fitting-right (in-expression e) (use-as enter t ∷ (in-program a ++ (use-as leave t ∷ in-program q))) (fit-tail (F .fit))) in (
         record {
@@ -173,6 +182,7 @@ module _ (C : Case) where
           nested = F .nested .1 .0;
           rows = F .rows .1 .1 .0;
           formed = F .formed .0;
+          shaped = F .shaped .1 .0;
           fit = fitting-left (in-program a) (use-as leave t ∷ in-program q) f₁;
           lefts = lefts-left (C .w .universe) (left-strings a) (left-strings q) (F .lefts);
         },
@@ -182,13 +192,14 @@ module _ (C : Case) where
           nested = F .nested .1 .1;
           rows = F .rows .1 .1 .1;
           formed = F .formed .1;
+          shaped = F .shaped .1 .1;
           fit = fit-tail (fitting-right (in-program a) (use-as leave t ∷ in-program q) f₁);
           lefts = lefts-right (C .w .universe) (left-strings a) (left-strings q) (F .lefts);
         },
       )
 
   pub fine-block : {scope : List Text} {a q : Program} → Fine scope (block a q) → Fine scope a × Fine scope q
-  unfolding OwnProgram ScopedProgram Nested RowsOk Formed in-program left-strings
+  unfolding OwnProgram ScopedProgram Nested RowsOk Formed ShapedProgram in-program left-strings
   fine-block {scope} {a} {q} F = (
     record {
       own = F .own .0;
@@ -196,6 +207,7 @@ module _ (C : Case) where
       nested = F .nested .0;
       rows = F .rows .0;
       formed = F .formed .0;
+      shaped = F .shaped .0;
       fit = fitting-left (in-program a) (in-program q) (F .fit);
       lefts = lefts-left (C .w .universe) (left-strings a) (left-strings q) (F .lefts);
     },
@@ -205,6 +217,7 @@ module _ (C : Case) where
       nested = F .nested .1;
       rows = F .rows .1;
       formed = F .formed .1;
+      shaped = F .shaped .1;
       fit = fitting-right (in-program a) (in-program q) (F .fit);
       lefts = lefts-right (C .w .universe) (left-strings a) (left-strings q) (F .lefts);
     },

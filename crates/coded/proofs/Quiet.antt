@@ -13,7 +13,7 @@ use Rattle.words.specs.Standing.{Has}
 use Rattle.words.specs.Parts.{ends}
 use Rattle.words.proofs.EachKind.{each-at}
 use Rattle.words.proofs.StatementParts.{quiet, Quiet}
-use Rattle.lowering.specs.Lowering.{at, Halves, all-stand, kind-field, lower-at, Filled}
+use Rattle.lowering.specs.Lowering.{at, TokenValues, all-stand, kind-field, lower-at, Filled}
 use Rattle.lowering.proofs.Places.{kind-field-at}
 use Rattle.actions.specs.Parts.{is-statement, start}
 use Rattle.coding.specs.Pass.{Depths, depths-after, depths-at}
@@ -60,7 +60,7 @@ depths-quiet ids words d s (suc m) q =
     rw z (depths-other ids words d (s + m) a b ∙ depths-quiet ids words d s m (λ i l h. q i l (omega arith)))
 
 -- lowered, they are still no statement's own
-pub quiet-low : (words codes tokens fr : List ℕ) (H : Halves) (u lo hi : ℕ) (low : List ℕ) → Filled (lower-at (at words) (at codes) (at tokens) (at fr) H u lo) lo hi low low → (i : ℕ) → lo ≤ i → i < hi
+pub quiet-low : (words codes tokens fr : List ℕ) (H : TokenValues) (u lo hi : ℕ) (low : List ℕ) → Filled (lower-at (at words) (at codes) (at tokens) (at fr) H u lo) lo hi low low → (i : ℕ) → lo ≤ i → i < hi
     → is-statement (kind-of (getD words i 0)) ≡ false → is-statement (kind-of (getD low i 0)) ≡ false
 unfolding kind-field is-statement
 quiet-low words codes tokens fr H u lo hi low filled i l h e =
@@ -72,7 +72,7 @@ quiet-low words codes tokens fr H u lo hi low filled i l h e =
     go false b = e
 
 -- and a statement's own word is one still
-pub own-low : (words codes tokens fr : List ℕ) (H : Halves) (u lo hi : ℕ) (low : List ℕ) → Filled (lower-at (at words) (at codes) (at tokens) (at fr) H u lo) lo hi low low → (i : ℕ) → lo ≤ i → i < hi
+pub own-low : (words codes tokens fr : List ℕ) (H : TokenValues) (u lo hi : ℕ) (low : List ℕ) → Filled (lower-at (at words) (at codes) (at tokens) (at fr) H u lo) lo hi low low → (i : ℕ) → lo ≤ i → i < hi
     → is-statement (kind-of (getD words i 0)) ≡ true → is-statement (kind-of (getD low i 0)) ≡ true
 unfolding kind-field is-statement
 own-low words codes tokens fr H u lo hi low filled i l h e =

@@ -152,7 +152,7 @@ module _ (C : Case) where
 
   pub nothing-ok : StatementOk v [] []
   unfolding attribute-names gather Every
-  nothing-ok = record { few-attributes = omega arith; few-closures = omega arith; closed = tt }
+  nothing-ok = record { few-attributes = omega arith; few-closures = omega arith; closed = tt; counted = tt }
 
   -- over the words of a statement before its own
   pub depths-own : (s k : ℕ) (us : List Use) (es : List Expression) (S : Shape C s k us es) → start (C .words) s ≡ s → depths-before C k ≡ depths-before C s

@@ -36,7 +36,7 @@ use Rattle.actions.specs.Parts.{is-statement, start}
 use Rattle.actions.proofs.Parts.{start-quiet}
 use Rattle.code.specs.Statements.{depth-in, Whole}
 use Rattle.coding.specs.Pass.{Depths, names-between, Made}
-use Rattle.coded.proofs.Given.{Case, depths-before, Place, halves-of}
+use Rattle.coded.proofs.Given.{Case, depths-before, Place, values-of}
 use Rattle.coded.proofs.Agreeing.{is-loop, filled}
 use Rattle.coded.proofs.Quiet.{start-after, quiet-words, quiet-low, own-low}
 
@@ -188,7 +188,7 @@ module _ (C : Case) (scope : List Text) (s k : ℕ) (us : List Use) (es : List E
         begins = e;
         order = omega (arith, S .long);
         quiet = λ i l h.
-            quiet-low (C .words) (placed .made .codes) (C .tokens) (placed .made .fr) (halves-of C) (elements (C .w)) s (suc k) (C .low) (filled C scope s k (attribute-names v us) placed) i l (omega (arith, h)) (quiet-before i l h);
+            quiet-low (C .words) (placed .made .codes) (C .tokens) (placed .made .fr) (values-of C) (elements (C .w)) s (suc k) (C .low) (filled C scope s k (attribute-names v us) placed) i l (omega (arith, h)) (quiet-before i l h);
       }
 
       pub after-words : start (C .words) (suc k) ≡ suc k
@@ -197,4 +197,4 @@ module _ (C : Case) (scope : List Text) (s k : ℕ) (us : List Use) (es : List E
       pub after-low : start (C .low) (suc k) ≡ suc k
       after-low =
           start-after (C .low) k
-          (own-low (C .words) (placed .made .codes) (C .tokens) (placed .made .fr) (halves-of C) (elements (C .w)) s (suc k) (C .low) (filled C scope s k (attribute-names v us) placed) k (omega (arith, S .long)) (omega arith) own-statement)
+          (own-low (C .words) (placed .made .codes) (C .tokens) (placed .made .fr) (values-of C) (elements (C .w)) s (suc k) (C .low) (filled C scope s k (attribute-names v us) placed) k (omega (arith, S .long)) (omega arith) own-statement)

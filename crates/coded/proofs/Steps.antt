@@ -8,12 +8,13 @@ use lib.ListN.{length, getD, length-append}
 use Rattle.definition.specs.Text.{Text, same, member, some-of, gather}
 use Rattle.definition.specs.Token.{Token}
 use Rattle.definition.specs.Syntax.{Term, Expression, Item, Program, assign, print}
-use Rattle.definition.specs.Names.{Use, attribute-only, in-terms, in-expression, in-item, in-program, variables, attribute-names, free, closures, item-expressions, strings, left-strings}
+use Rattle.definition.specs.Names.{Use, attribute-only, in-terms, in-expression, in-item, in-program, variables, attribute-names, free, closures, counted-in, item-expressions, strings, left-strings}
 use Rattle.definition.proofs.BoolLaws.{is-true, is-false}
 use Rattle.definition.proofs.MeaningLaws.{same-equal, same-itself, member-first}
 use Rattle.definition.proofs.NameLaws.{Fitting, none, fitting-left}
 use Rattle.definition.proofs.ScopeLaws.{ScopedExpression, Fresh, ScopedProgram}
-use Rattle.definition.proofs.RowLaws.{StatementOk, RowsOk}
+use Rattle.definition.proofs.RowLaws.{Every, StatementOk, RowsOk}
+use Rattle.definition.proofs.QuantityLaws.{a-test, Shaped, ShapedProgram}
 use Rattle.definition.proofs.FormLaws.{Formed}
 use Rattle.words.specs.Fields.{word, RELATION-NAME, ATTRIBUTE, BIND, RANGE, NEXT, ASSIGN, TEST, JUMP, AGAIN, PRINT}
 use Rattle.words.specs.Raw.{number, leaves, size, flat, size-items, flat-items, size-program, flat-program}
@@ -30,7 +31,7 @@ use Rattle.code.specs.Program.{Code, code-assign, code-print}
 use Rattle.coding.specs.Pass.{Depths}
 use Rattle.coded.proofs.Given.{Case, depths-before, Place}
 use Rattle.coded.proofs.Agreeing.{is-loop, apart}
-use Rattle.coded.proofs.Scoping.{Closed, closed-split}
+use Rattle.coded.proofs.Scoping.{every-split}
 use Rattle.coded.proofs.OneCode.{test-code, range-code, assign-code, print-code}
 use Rattle.coded.proofs.Standing.{Deep, Begun, placed, whole, after-words, after-low}
 use Rattle.coded.proofs.Depth.{opened, closed, at-range, at-next, own-depth, others-depth, enter-block, leave-block}
@@ -61,9 +62,10 @@ module _ (C : Case) where
   covers : (scope : List Text) (s k : ℕ) (us : List Use) (P : Place C scope s k (attribute-names v us)) → Covered (attribute-names v us) v (apart C scope s k (attribute-names v us) P) us
   covers scope s k us P = covered-names (attribute-names v us) v (apart C scope s k (attribute-names v us) P) us (λ x m. m)
 
-  one-closed : (e : Expression) → Closed v (gather closures (e ∷ [])) → Closed v (closures e)
+  -- what holds of all that is found in one expression
+  one : (P : Expression → Type 0) (f : Expression → List Expression) (e : Expression) → Every P (gather f (e ∷ [])) → Every P (f e)
   unfolding gather
-  one-closed e c = closed-split v (closures e) [] c .0
+  one P f e c = every-split P (f e) [] c .0
 
   -- the first statement of a program, its own word at k: what follows it
   pub record First (scope : List Text) (p q : Program) (n k : ℕ) : Type 0 where
@@ -74,7 +76,7 @@ module _ (C : Case) where
   module _ (scope : List Text) (loops : Loops C scope) (shallow : length scope ≤ 32) (n : ℕ) (B : Begun C scope n) where
     pub assign-first : (i : ℕ) (r : Token) (ps : List Term) (e : Expression) (q : Program) → Fine C scope (assign i r ps e q) → Has (C .words) n (flat-program (assign i r ps e q) n)
         → n + size-program (assign i r ps e q) ≤ length (C .words) → First scope (assign i r ps e q) q n (n + 1 + length ps + size e)
-    unfolding flat-program size-program OwnProgram ScopedProgram RowsOk Formed in-program left-strings
+    unfolding flat-program size-program OwnProgram ScopedProgram RowsOk Formed ShapedProgram in-program left-strings
     assign-first i r ps e q F x h =
         let o = F .own in
         let k = n + 1 + length ps + size e in
@@ -91,8 +93,8 @@ module _ (C : Case) where
         let parts = has-first (C .words) n (word RELATION-NAME (number r) (length ps) 0) (leaves ATTRIBUTE ps ++ flat e (n + 1 + length ps)) (has-append (C .words) n ws (word ASSIGN n (length ps) i ∷ []) (c .0) .0) in
         let inner = has-append (C .words) (n + 1) (leaves ATTRIBUTE ps) (flat e (n + 1 + length ps)) (parts .1) in
         let ye : Has (C .words) (n + 1 + length ps) (flat e (n + 1 + length ps)) = rw (length-leaves ATTRIBUTE ps) at (inner .1) in
-        let A = assign-code C scope n k (attribute-names v us) (P .place) i r ps e (F .scoped .0) (F .scoped .1 .0) (F .scoped .1 .1 .0) (F .formed .0) (lefts-placed (C .w .universe) ps (lefts-left (C .w .universe) (strings ps) (left-strings q) (F .lefts)))
-        (o .1) (o .2) (o .3) (covers scope n k us (P .place)) (one-closed e (F .rows .0 .closed)) (F .rows .1 .1 .0) refl (parts .0) (inner .0) ye ow in
+        let A = assign-code C scope n k (attribute-names v us) (P .place) i r ps e (F .scoped .0) (F .scoped .1 .0) (F .scoped .1 .1 .0) (F .shaped .0) (F .formed .0) (lefts-placed (C .w .universe) ps (lefts-left (C .w .universe) (strings ps) (left-strings q) (F .lefts)))
+        (o .1) (o .2) (o .3) (covers scope n k us (P .place)) (one _ closures e (F .rows .0 .closed)) (one _ counted-in e (F .rows .0 .counted)) (F .rows .1 .1 .0) refl (parts .0) (inner .0) ye ow in
         let I = assign-instr C scope n k (attribute-names v us) (P .place) n (length ps) i (omega (arith, h, C .small)) (omega (arith, h, C .small)) ow in
         record {
           after = P .after;
@@ -102,7 +104,7 @@ module _ (C : Case) where
 
     pub print-first : (i : ℕ) (is : List Item) (q : Program) → Fine C scope (print i is q) → Has (C .words) n (flat-program (print i is q) n) → n + size-program (print i is q) ≤ length (C .words)
         → First scope (print i is q) q n (n + size-items is)
-    unfolding flat-program size-program OwnProgram ScopedProgram RowsOk Formed in-program left-strings
+    unfolding flat-program size-program OwnProgram ScopedProgram RowsOk Formed ShapedProgram in-program left-strings
     print-first i is q F x h =
         let o = F .own in
         let k = n + size-items is in
@@ -114,7 +116,7 @@ module _ (C : Case) where
         let ow : getD (C .words) k 0 ≡ word PRINT n 0 i = last-word (C .words) n k (flat-items is n) (word PRINT n 0 i) (omega (arith, length-items is n)) (c .0) in
         let P = plain C scope n k us es S PRINT n 0 i ow (omega arith) refl refl B (F .rows .0) fit loops shallow in
         let y = has-append (C .words) n (flat-items is n) (word PRINT n 0 i ∷ []) (c .0) .0 in
-        let A = print-code C scope n k (attribute-names v us) (P .place) i is (F .scoped .0) (F .formed .0) (o .1) (covers scope n k us (P .place)) (F .rows .0 .closed) refl (o .0) y ow in
+        let A = print-code C scope n k (attribute-names v us) (P .place) i is (F .scoped .0) (F .formed .0) (F .shaped .0) (o .1) (covers scope n k us (P .place)) (F .rows .0 .closed) (F .rows .0 .counted) refl (o .0) y ow in
         let I = print-instr C scope n k (attribute-names v us) (P .place) n 0 i (omega (arith, h, C .small)) (omega arith) ow in
         record {
           after = P .after;
@@ -129,9 +131,9 @@ module _ (C : Case) where
       pub code : TestCode (C .w) (C .query) (C .low) scope n (n + size e) e
       pub after : Begun C scope (suc (n + size e))
 
-    pub tested : (i l : ℕ) (e : Expression) → ScopedExpression (C .kinds) scope e → OwnExpression (C .ts) e → StatementOk v (in-expression e) (e ∷ []) → length (free v e) ≡ 0 → Fitting (C .kinds .known) (in-expression e) → l < 65536
+    pub tested : (i l : ℕ) (e : Expression) → ScopedExpression (C .kinds) scope e → Shaped a-test e → OwnExpression (C .ts) e → StatementOk v (in-expression e) (e ∷ []) → length (free v e) ≡ 0 → Fitting (C .kinds .known) (in-expression e) → l < 65536
         → n + size e < length (C .words) → Has (C .words) n (flat e n ++ (word TEST 0 l i ∷ [])) → Tested e l
-    tested i l e sc o O f fit hl h x =
+    tested i l e sc g o O f fit hl h x =
         let k = n + size e in
         let us = in-expression e in
         let S = test-shape C e n l i o h x in
@@ -141,7 +143,7 @@ module _ (C : Case) where
         record {
           instruction = test-instr C scope n k (attribute-names v us) (P .place) 0 l i (omega arith) hl ow;
           is-whole = P .whole;
-          code = test-code C scope n k (attribute-names v us) (P .place) e sc o (covers scope n k us (P .place)) (one-closed e (O .closed)) f refl y;
+          code = test-code C scope n k (attribute-names v us) (P .place) e sc g o (covers scope n k us (P .place)) (one _ closures e (O .closed)) (one _ counted-in e (O .counted)) f refl y;
           after = P .after;
         }
 
@@ -165,9 +167,9 @@ module _ (C : Case) where
       pub code : RangeCode (C .w) (C .query) (C .low) scope n (n + 1 + size e) e
       pub inner : Begun C (t .text ∷ scope) (suc (n + 1 + size e))
 
-    pub ranged : (i l : ℕ) (t : Token) (e : Expression) → Fresh (C .kinds) scope (t .text) → ScopedExpression (C .kinds) scope e → OwnName (C .ts) t → OwnExpression (C .ts) e → StatementOk v (in-expression e) (e ∷ []) → length (free v e) ≡ 1
+    pub ranged : (i l : ℕ) (t : Token) (e : Expression) → Fresh (C .kinds) scope (t .text) → ScopedExpression (C .kinds) scope e → Shaped a-test e → OwnName (C .ts) t → OwnExpression (C .ts) e → StatementOk v (in-expression e) (e ∷ []) → length (free v e) ≡ 1
         → Fitting (C .kinds .known) (in-expression e) → length scope < 32 → l < 65536 → n + 1 + size e < length (C .words) → Has (C .words) n ((word BIND (number t) 0 0 ∷ flat e (n + 1)) ++ (word RANGE (number t) l i ∷ [])) → Ranged t e l
-    ranged i l t e fr sc ot o O f fit deep hl h x =
+    ranged i l t e fr sc g ot o O f fit deep hl h x =
         let k = n + 1 + size e in
         let us = in-expression e in
         let ws = word BIND (number t) 0 0 ∷ flat e (n + 1) in
@@ -184,7 +186,7 @@ module _ (C : Case) where
         record {
           instruction = range-instr C scope n k (attribute-names v us) P t ot (fr .1) (length scope) deep own l i hl ow;
           is-whole = whole C scope n k us (e ∷ []) S (B .start-words) O fit loops shallow held (B .start-low);
-          code = range-code C scope n k (attribute-names v us) P i l (number t) e sc o (covers scope n k us P) (one-closed e (O .closed)) f refl (omega (arith, ot .inside, C .few)) hl (y .0) (y .1) ow;
+          code = range-code C scope n k (attribute-names v us) P i l (number t) e sc g o (covers scope n k us P) (one _ closures e (O .closed)) (one _ counted-in e (O .counted)) f refl (omega (arith, ot .inside, C .few)) hl (y .0) (y .1) ow;
           inner = record {
             start-words = after-words C scope n k us (e ∷ []) S (B .start-words) O fit loops shallow held;
             start-low = after-low C scope n k us (e ∷ []) S (B .start-words) O fit loops shallow held;

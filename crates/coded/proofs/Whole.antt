@@ -12,6 +12,7 @@ use Rattle.definition.proofs.NameLaws.{fitting-left}
 use Rattle.definition.proofs.ScopeLaws.{ScopedProgram}
 use Rattle.definition.proofs.NestingLaws.{Nested}
 use Rattle.definition.proofs.RowLaws.{RowsOk}
+use Rattle.definition.proofs.QuantityLaws.{ShapedProgram}
 use Rattle.words.specs.Fields.{word, BIND, RANGE, NEXT, TEST, JUMP, AGAIN}
 use Rattle.words.specs.Raw.{number, size, flat, size-items, size-program, flat-program}
 use Rattle.words.specs.Tokens.{OwnProgram}
@@ -36,7 +37,7 @@ module _ (C : Case) where
 
   pub program : (p : Program) (scope : List Text) (n : ℕ) → Loops C scope → length scope ≤ 32 → Begun C scope n → Fine C scope p → Has (C .words) n (flat-program p n) → n + size-program p ≤ length (C .words)
       → Done scope p n (n + size-program p)
-  unfolding flat-program size-program OwnProgram ScopedProgram Nested RowsOk in-program
+  unfolding flat-program size-program OwnProgram ScopedProgram Nested RowsOk ShapedProgram in-program
   program end scope n loops sh B F x h = at-end (omega arith) (record { code = code-end; after = B })
   program (assign i r ps e q) scope n loops sh B F x h =
       let k = n + 1 + length ps + size e in
@@ -59,7 +60,7 @@ module _ (C : Case) where
       let G = fine-test C F in
       let c = has-cut (C .words) n m₀ (flat e n) (word TEST 0 l₀ i) (flat-program a m₀ ++ (word JUMP 0 f₀ 0 ∷ (flat-program b l₀ ++ flat-program q f₀))) (omega (arith, length-flat e n)) x in
       let d = has-cut (C .words) m₀ l₀ (flat-program a m₀) (word JUMP 0 f₀ 0) (flat-program b l₀ ++ flat-program q f₀) (omega (arith, length-program a m₀)) (c .1) in
-      let T = tested C scope loops sh n B i l₀ e (F .scoped .0) (F .own .1) (F .rows .0) (F .rows .1 .0) (fitting-left (in-expression e) _ (F .fit)) (omega (arith, small)) (omega (arith, h)) (c .0) in
+      let T = tested C scope loops sh n B i l₀ e (F .scoped .0) (F .shaped .0) (F .own .1) (F .rows .0) (F .rows .1 .0) (fitting-left (in-expression e) _ (F .fit)) (omega (arith, small)) (omega (arith, h)) (c .0) in
       let ha = has-append (C .words) m₀ (flat-program a m₀) _ (d .0) .0 in
       let A = program a scope (suc k) loops sh (T .after) (G .0) (has-at C a m₀ (suc k) (omega arith) ha) (omega (arith, h)) in
       let J = jumped C scope loops sh m (A .after) f₀ small (omega (arith, h)) (omega arith) (last-word (C .words) m₀ m (flat-program a m₀) (word JUMP 0 f₀ 0) (omega (arith, length-program a m₀)) (d .0)) in
@@ -80,7 +81,7 @@ module _ (C : Case) where
       let G = fine-while C F in
       let c = has-cut (C .words) n m₀ (flat e n) (word TEST 0 l₀ i) (flat-program a m₀ ++ (word AGAIN (n + size e - 1) m₀ 0 ∷ flat-program q l₀)) (omega (arith, length-flat e n)) x in
       let d = has-cut (C .words) m₀ l₀ (flat-program a m₀) (word AGAIN (n + size e - 1) m₀ 0) (flat-program q l₀) (omega (arith, length-program a m₀)) (c .1) in
-      let T = tested C scope loops sh n B i l₀ e (F .scoped .0) (F .own .1) (F .rows .0) (F .rows .1 .0) (fitting-left (in-expression e) _ (F .fit)) small (omega (arith, h)) (c .0) in
+      let T = tested C scope loops sh n B i l₀ e (F .scoped .0) (F .shaped .0) (F .own .1) (F .rows .0) (F .rows .1 .0) (fitting-left (in-expression e) _ (F .fit)) small (omega (arith, h)) (c .0) in
       let ha = has-append (C .words) m₀ (flat-program a m₀) _ (d .0) .0 in
       let A = program a scope (suc k) loops sh (T .after) (G .0) (has-at C a m₀ (suc k) (omega arith) ha) (omega (arith, h)) in
       let J = again C scope loops sh m (A .after) (n + size e - 1) m₀ (omega (arith, small)) (omega (arith, small)) (omega (arith, h)) (last-word (C .words) m₀ m (flat-program a m₀) (word AGAIN (n + size e - 1) m₀ 0) (omega (arith, length-program a m₀)) (d .0)) in
@@ -101,7 +102,7 @@ module _ (C : Case) where
       let ws = word BIND (number t) 0 0 ∷ flat e (n + 1) in
       let c = has-cut (C .words) n m₀ ws (word RANGE (number t) l₀ i) (flat-program a m₀ ++ (word NEXT (number t) m₀ 0 ∷ flat-program q (l₀ + 1))) (omega (arith, length-flat e (n + 1))) x in
       let d = has-cut (C .words) m₀ (l₀ + 1) (flat-program a m₀) (word NEXT (number t) m₀ 0) (flat-program q (l₀ + 1)) (omega (arith, length-program a m₀)) (c .1) in
-      let T = ranged C scope loops sh n B i l₀ t e fr (F .scoped .1 .0) (F .own .1) (F .own .2) (F .rows .0) (F .rows .1 .0) (fitting-left (in-expression e) _ (fit-tail (F .fit))) deep (omega (arith, small)) (omega (arith, h)) (c .0) in
+      let T = ranged C scope loops sh n B i l₀ t e fr (F .scoped .1 .0) (F .shaped .0) (F .own .1) (F .own .2) (F .rows .0) (F .rows .1 .0) (fitting-left (in-expression e) _ (fit-tail (F .fit))) deep (omega (arith, small)) (omega (arith, h)) (c .0) in
       let ha = has-append (C .words) m₀ (flat-program a m₀) _ (d .0) .0 in
       let loops′ = more-loops C scope (t .text) loops (fr .1) in
       let A = program a (t .text ∷ scope) (suc k) loops′ (omega (arith, deep)) (T .inner) (G .0) (has-at C a m₀ (suc k) (omega arith) ha) (omega (arith, h)) in

@@ -15,7 +15,7 @@ use Rattle.slots.specs.declared.Found.{Found}
 use Rattle.slots.specs.Slots.{names-of, Holds, fits, over, digit-at}
 use Rattle.free.specs.Words as Free
 use Rattle.free.specs.Words.{Small}
-use Rattle.lowering.specs.Lowering.{at, halves, lower-at, Filled}
+use Rattle.lowering.specs.Lowering.{at, token-values, lower-at, Filled}
 use Rattle.actions.specs.Parts.{is-statement, start}
 use Rattle.coding.specs.Pass.{Depths, depths-after, depths-at, names-between, Made, Passed}
 use Rattle.coding.specs.Turns.{Shallow, Coded, Turned, Upto}
@@ -80,7 +80,7 @@ module _ (facts query : Text) (places tokens ids known words : List ℕ) (u : �
       }
 
   pub turned : (codes fr old new : List ℕ) → f .count ≤ 4 → Coded facts query places tokens ids known f depths words codes s (k + 1)
-      → Free.Filled words (digit-at f ids) fr s (k + 1) → Small fr → Filled (lower-at (at words) (at codes) (at tokens) (at fr) (halves facts query places (at tokens)) u s) s (k + 1) old new
+      → Free.Filled words (digit-at f ids) fr s (k + 1) → Small fr → Filled (lower-at (at words) (at codes) (at tokens) (at fr) (token-values facts query places (at tokens)) u s) s (k + 1) old new
       → Turned facts query places tokens ids known words u depths s k old new
   turned codes fr old new h coded free small low =
       record {

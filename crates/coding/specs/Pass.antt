@@ -15,7 +15,7 @@ use Rattle.slots.specs.declared.Found.{Found}
 use Rattle.slots.specs.Slots.{of-loop, names-of, Holds, slot-of, digit-at}
 use Rattle.free.specs.Words as Free
 use Rattle.free.specs.Words.{Small}
-use Rattle.lowering.specs.Lowering.{at, halves, lower-at}
+use Rattle.lowering.specs.Lowering.{at, token-values, lower-at}
 use Rattle.actions.specs.Parts.{is-statement, start}
 
 -- what the pass knows of loop variables: by the number of a name the depth of its FOR, and how many FORs are open
@@ -74,7 +74,7 @@ module _ (facts query : Text) (places tokens ids known : List ℕ) where
     pub fr : List ℕ
     pub free : Free.Filled words (digit-at found ids) fr s (suc k)
     pub small : Small fr
-    pub lowered : (i : ℕ) → s ≤ i → i ≤ k → getD low i 0 ≡ lower-at (at words) (at codes) (at tokens) (at fr) (halves facts query places (at tokens)) u s i
+    pub lowered : (i : ℕ) → s ≤ i → i ≤ k → getD low i 0 ≡ lower-at (at words) (at codes) (at tokens) (at fr) (token-values facts query places (at tokens)) u s i
 
   -- every statement with at most four attribute names is lowered; d are the depths before the first word
   pub record Passed (words low : List ℕ) (u : ℕ) (d : Depths) : Type 0 where

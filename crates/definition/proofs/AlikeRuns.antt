@@ -3,18 +3,18 @@
 use mathlib.Core.Path.{_≡_, refl, sym, ap, ap₂, fun-ext, _∙_}
 use mathlib.Core.Bool.{Bool, _||_, not}
 use mathlib.Core.List.{List, [], _∷_, map}
-use Prim.Native.Nat.{ℕ, zero, suc}
+use Prim.Native.Nat.{ℕ, zero, suc, _+_}
 use lib.ListN.{length}
 use Rattle.definition.specs.Text.{Text, keep, some-of, all-of, below}
-use Rattle.definition.specs.Syntax.{Term, name, string, anything, Expression, atom, truth, falsity, compare, matching, negation, conjunction, disjunction, implication, equivalence, exists, for-all, closure-of, compare-relations}
-use Rattle.definition.specs.Syntax.{Program, Item, rows, word, line-end}
+use Rattle.definition.specs.Syntax.{Term, name, string, anything, Expression, atom, truth, falsity, compare, matching, negation, conjunction, disjunction, implication, equivalence, exists, for-all, closure-of, compare-relations, literal, count-of, sum-of, ratio-of, compare-figures}
+use Rattle.definition.specs.Syntax.{Program, Item, rows, word, line-end, amount}
 use Rattle.definition.specs.Facts.{Relation, Fact}
 use Rattle.definition.specs.Names.{free, join}
 use Rattle.definition.specs.Tables.{Tuple, holds, table, tuples, closure}
 use Rattle.definition.specs.Accept.{Accepted, relation-words, largest-words, scratch-words, words-needed}
-use Rattle.definition.specs.Meaning.{Tables, Environment, bind, bind-all, table-of, compares-relations, choices, readings, mean, answers}
+use Rattle.definition.specs.Meaning.{Tables, Environment, bind, bind-all, table-of, compares-relations, whole, share, top, compares-figures, choices, readings, mean, figure, answers}
 use Rattle.definition.specs.Assignment.{loaded, columns, fits, differs, assigned, assign-tables, element-text}
-use Rattle.definition.specs.Print.{is-quoted, in-quotes, shown, bare, item-text, print-text}
+use Rattle.definition.specs.Print.{figure-text, is-quoted, in-quotes, shown, bare, item-text, print-text}
 use Rattle.definition.specs.Run.{Task, assigning, printing, testing, repeating, ranging, taking, step, next-of, start, point}
 use Rattle.definition.proofs.ListLaws.{Each, each-none, each-one, each-some}
 use Rattle.definition.proofs.AlikeLaws.{SameFact, SameRelation, SameAccepted, same-loaded}
@@ -49,29 +49,59 @@ module _ (universe : List Text) (variables : Text → Bool) (program : Program) 
   readings-same env [] = refl
   readings-same env (p ∷ ps) = rw (choices-same env p, readings-same env ps)
 
-  mean-same : (ts : Tables) (env : Environment) (e : Expression) → mean w ts env e ≡ mean v ts env e
-  unfolding mean
-  mean-same ts env (atom r ps) = rw (table-same (r .text) relations ts, readings-same env ps)
-  mean-same ts env (truth ps) = rw (readings-same env ps)
-  mean-same ts env (falsity ps) = refl
-  mean-same ts env (compare g p q) = rw (readings-same env (p ∷ q ∷ []))
-  mean-same ts env (matching s p) = rw (choices-same env p)
-  mean-same ts env (negation e) = rw (mean-same ts env e)
-  mean-same ts env (conjunction a b) = rw (mean-same ts env a, mean-same ts env b)
-  mean-same ts env (disjunction a b) = rw (mean-same ts env a, mean-same ts env b)
-  mean-same ts env (implication a b) = rw (mean-same ts env a, mean-same ts env b)
-  mean-same ts env (equivalence a b) = rw (mean-same ts env a, mean-same ts env b)
-  mean-same ts env (exists x e) = ap (λ (f : ℕ → Bool). some-of f (below (length universe))) (fun-ext (λ a. mean-same ts (bind (x .text) a env) e))
-  mean-same ts env (for-all x e) = ap (λ (f : ℕ → Bool). all-of f (below (length universe))) (fun-ext (λ a. mean-same ts (bind (x .text) a env) e))
-  mean-same ts env (closure-of e) =
-      let n = length universe in
-      let xs = free variables e in
-      ap (λ (f : Tuple → Bool). holds n (closure n (table n 2 f)) (map env xs)) (fun-ext (λ t. mean-same ts (bind-all xs t env) e))
-  mean-same ts env (compare-relations g a b) =
-      let xs = join (free variables a) (free variables b) in
-      let us = tuples (length universe) (length xs) in
-      ap₂ (λ (f h : Tuple → Bool). compares-relations g (all-of (λ t. not (f t) || h t) us) (all-of (λ t. not (h t) || f t) us))
-      (fun-ext (λ t. mean-same ts (bind-all xs t env) a)) (fun-ext (λ t. mean-same ts (bind-all xs t env) b))
+  mutual
+    unfolding mean
+
+    mean-same : (ts : Tables) (env : Environment) (e : Expression) → mean w ts env e ≡ mean v ts env e
+    mean-same ts env (atom r ps) = rw (table-same (r .text) relations ts, readings-same env ps)
+    mean-same ts env (truth ps) = rw (readings-same env ps)
+    mean-same ts env (falsity ps) = refl
+    mean-same ts env (compare g p q) = rw (readings-same env (p ∷ q ∷ []))
+    mean-same ts env (matching s p) = rw (choices-same env p)
+    mean-same ts env (negation e) = rw (mean-same ts env e)
+    mean-same ts env (conjunction a b) = rw (mean-same ts env a, mean-same ts env b)
+    mean-same ts env (disjunction a b) = rw (mean-same ts env a, mean-same ts env b)
+    mean-same ts env (implication a b) = rw (mean-same ts env a, mean-same ts env b)
+    mean-same ts env (equivalence a b) = rw (mean-same ts env a, mean-same ts env b)
+    mean-same ts env (exists x e) = ap (λ (f : ℕ → Bool). some-of f (below (length universe))) (fun-ext (λ a. mean-same ts (bind (x .text) a env) e))
+    mean-same ts env (for-all x e) = ap (λ (f : ℕ → Bool). all-of f (below (length universe))) (fun-ext (λ a. mean-same ts (bind (x .text) a env) e))
+    mean-same ts env (closure-of e) =
+        let n = length universe in
+        let xs = free variables e in
+        ap (λ (f : Tuple → Bool). holds n (closure n (table n 2 f)) (map env xs)) (fun-ext (λ t. mean-same ts (bind-all xs t env) e))
+    mean-same ts env (compare-relations g a b) =
+        let xs = join (free variables a) (free variables b) in
+        let us = tuples (length universe) (length xs) in
+        ap₂ (λ (f h : Tuple → Bool). compares-relations g (all-of (λ t. not (f t) || h t) us) (all-of (λ t. not (h t) || f t) us))
+        (fun-ext (λ t. mean-same ts (bind-all xs t env) a)) (fun-ext (λ t. mean-same ts (bind-all xs t env) b))
+    mean-same ts env (compare-figures g a b) = ap₂ (compares-figures g) (figure-same ts env a) (figure-same ts env b)
+    mean-same ts env (literal t) = refl
+    mean-same ts env (count-of e) = refl
+    mean-same ts env (sum-of a b) = refl
+    mean-same ts env (ratio-of a b) = refl
+
+    figure-same : (ts : Tables) (env : Environment) (e : Expression) → figure w ts env e ≡ figure v ts env e
+    figure-same ts env (literal t) = refl
+    figure-same ts env (count-of e) =
+        let xs = free variables e in
+        ap (λ (f : Tuple → Bool). whole (length (keep f (tuples (length universe) (length xs))))) (fun-ext (λ t. mean-same ts (bind-all xs t env) e))
+    figure-same ts env (sum-of a b) = ap₂ (λ p q. whole (top p + top q)) (figure-same ts env a) (figure-same ts env b)
+    figure-same ts env (ratio-of a b) = ap₂ (λ p q. share (top p) (top q)) (figure-same ts env a) (figure-same ts env b)
+    figure-same ts env (atom r ps) = refl
+    figure-same ts env (truth ps) = refl
+    figure-same ts env (falsity ps) = refl
+    figure-same ts env (compare g p q) = refl
+    figure-same ts env (matching s p) = refl
+    figure-same ts env (negation e) = refl
+    figure-same ts env (conjunction a b) = refl
+    figure-same ts env (disjunction a b) = refl
+    figure-same ts env (implication a b) = refl
+    figure-same ts env (equivalence a b) = refl
+    figure-same ts env (exists x e) = refl
+    figure-same ts env (for-all x e) = refl
+    figure-same ts env (closure-of e) = refl
+    figure-same ts env (compare-relations g a b) = refl
+    figure-same ts env (compare-figures g a b) = refl
 
   answers-same : (ts : Tables) (env : Environment) (e : Expression) → answers w ts env e ≡ answers v ts env e
   unfolding answers
@@ -132,6 +162,7 @@ module _ (universe : List Text) (variables : Text → Bool) (program : Program) 
   item-same ts env (rows ps e) = rw (fun-ext (bare-same env), fun-ext shown-same, answers-same ts env e)
   item-same ts env (word p) = bare-same env p
   item-same ts env line-end = refl
+  item-same ts env (amount e) = ap figure-text (figure-same ts env e)
 
   print-same : (ts : Tables) (env : Environment) (is : List Item) → print-text w ts env is ≡ print-text v ts env is
   unfolding print-text

@@ -4,7 +4,7 @@ use mathlib.Core.List.{List, [], _∷_}
 use Rattle.definition.specs.Text.{Text}
 use Rattle.definition.specs.Token.{Token}
 use Rattle.definition.specs.Grammar.{Nonterminal, Tree}
-use Rattle.definition.specs.Syntax.{Term, name, string, anything, Item, rows, word, line-end, Program, end, assign, print, test, while, for, block, says}
+use Rattle.definition.specs.Syntax.{Term, name, string, anything, Item, rows, word, line-end, amount, Program, end, assign, print, test, while, for, block, says}
 use Rattle.definition.specs.Answer.{ok}
 use Rattle.definition.specs.Accept.{read-query}
 use Rattle.definition.proofs.NestingLaws.{Steps, read-steps}
@@ -28,6 +28,7 @@ abbrev pub FormedItem : Item → Type 0
 FormedItem (rows ps e) = FormedLabel ps
 FormedItem (word p) = FormedWord p
 FormedItem line-end = Unit {0}
+FormedItem (amount e) = Unit {0}
 
 unfoldable pub FormedItems : List Item → Type 0
 FormedItems [] = Unit {0}
@@ -69,6 +70,7 @@ module _ (ts : List Token) where
   formed-item (Tree.item-labelled w e) = formed-word w
   formed-item (Tree.item-word w) = formed-word w
   formed-item Tree.item-endl = tt
+  formed-item (Tree.item-quantity q) = tt
 
   formed-items : (t : Tree Nonterminal.MoreItems) → FormedItems (says ts t)
   unfolding says FormedItems

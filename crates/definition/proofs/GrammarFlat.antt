@@ -1,30 +1,28 @@
 -- What is read is the tree's tokens: so code that reads a phrase from token p up to token q has a tree of q - p tokens.
 use Prim.Native.Nat.{ℕ, zero, suc, _+_, _≤_}
 use mathlib.Core.List.{List, [], _∷_, _++_, append-assoc, append-nil}
-use mathlib.Core.Bool.{Bool, true, false}
 use mathlib.Core.Path.{_≡_, refl, ap, sym, subst, _∙_}
 use native.Mathlib.Omega.{arith}
-use lib.Dec.{leb}
 use lib.ListN.{length, drop, length-drop, length-append}
 use Rattle.definition.proofs.GrammarMachine.{flat-value, flat-forest, Out, mach}
 use Rattle.definition.proofs.GrammarPlaces.{logO}
 use Rattle.definition.proofs.GrammarSound.{Fair, whole, part, mach-fair}
 use Rattle.definition.proofs.GrammarTold.{plain, cut, read-cut}
-use Rattle.definition.proofs.GrammarReads.{Reads, cat, level, at-level, done!, _▸_, token!, name!, string!, sign! }
+use Rattle.definition.proofs.GrammarReads.{Reads, cat, level, at-level, done!, _▸_, token!, name!, string!, number!, sign! }
 use Rattle.definition.specs.Grammar.{Nonterminal, Tree, flat}
-use Rattle.definition.specs.Reader.{Symbol, phrase, fixed, identifier, any-string, any-sign, level-end, Value, Forest, levels-open, Reading, read-as, refused-at, map-reading, pick-reading, finish-reading, read}
+use Rattle.definition.specs.Reader.{Symbol, phrase, fixed, identifier, any-string, any-number, any-sign, level-end, Value, Forest, levels-open, Reading, read-as, refused-at, map-reading, on-row, finish-reading, read}
 use Rattle.definition.specs.Syntax.{size}
-use Rattle.definition.specs.Token.{Terminal, name, string, sign, key}
+use Rattle.definition.specs.Token.{Terminal, name, string, number, sign, key}
 
 -- The trees that are read have the tokens that are read.
 cut-read : {s : List Symbol} (l : List Terminal) (v : List ℕ) (x : Reading s) (fs : Forest s) → cut l v x ≡ read-as fs → x ≡ read-as fs
 cut-read [] v x fs e = e
 cut-read (t ∷ l) [] x fs e = e
-cut-read {s} (t ∷ l) (n ∷ v) x fs e = at (leb n 32) (cut-read l v x fs) e
+cut-read {s} (t ∷ l) (n ∷ v) x fs e = at n (cut-read l v x fs) e
   where
-    at : (b : Bool) → (cut l v x ≡ read-as fs → x ≡ read-as fs) → pick-reading b (cut l v x) (refused-at 13 (t ∷ l)) ≡ read-as fs → x ≡ read-as fs
-    at true f e = f e
-    at false f e = absurd (let z : _≡_ {A = ℕ} 0 1 = cc in omega arith)
+    at : (n : ℕ) → (cut l v x ≡ read-as fs → x ≡ read-as fs) → on-row n (t ∷ l) (cut l v x) ≡ read-as fs → x ≡ read-as fs
+    at zero f e = f e
+    at (suc n) f e = absurd (let z : _≡_ {A = ℕ} 0 1 = cc in omega arith)
 
 fair-flat : {s : List Symbol} (ts : List Terminal) (fs : Forest s) (o : Out s) → Fair ts s o → plain o ≡ read-as fs → flat-forest s fs ≡ ts
 fair-flat {s} ts fs o (whole {fs = gs} h n) e = ap (flat-forest s) (same gs fs e) ∙ h
@@ -40,12 +38,14 @@ read-flat ts s fs e = fair-flat ts fs (mach ts s) (mach-fair ts s) (cut-read ts 
 abbrev symbol : Terminal → Symbol
 symbol (name x) = identifier
 symbol (string x) = any-string
+symbol (number o x) = any-number
 symbol (sign g) = any-sign
 symbol (key k) = fixed k
 
 abbrev value : (t : Terminal) → Value (symbol t)
 value (name x) = x
 value (string x) = x
+value (number o x) = (o, x)
 value (sign g) = g
 value (key k) = tt
 
@@ -61,12 +61,14 @@ same-level : (l : List Terminal) (d : ℕ) → level (symbols l) d ≡ d
 same-level [] d = refl
 same-level (name x ∷ l) d = same-level l d
 same-level (string x ∷ l) d = same-level l d
+same-level (number o x ∷ l) d = same-level l d
 same-level (sign g ∷ l) d = same-level l d
 same-level (key k ∷ l) d = same-level l d
 
 one-read : {d : ℕ} → d ≤ 32 → (t : Terminal) (l : List Terminal) → Reads d (symbol t ∷ []) (t ∷ l) (value t, tt) l
 one-read m (name x) l = name! m refl
 one-read m (string x) l = string! m refl
+one-read m (number o x) l = number! m refl
 one-read m (sign g) l = sign! m refl
 one-read m (key k) l = token! m refl
 

@@ -10,8 +10,8 @@ use lib.ListN.{length}
 use Rattle.definition.specs.Text.{Text, same, all-of, gather}
 use Rattle.definition.specs.Limits.{Limits}
 use Rattle.definition.specs.Token.{Token}
-use Rattle.definition.specs.Syntax.{Term, name, string, anything, Expression, atom, truth, falsity, compare, matching, negation, conjunction, disjunction, implication, equivalence, exists, for-all, closure-of, compare-relations}
-use Rattle.definition.specs.Syntax.{Item, rows, word, line-end, Program, end, assign, print, test, while, for, block}
+use Rattle.definition.specs.Syntax.{Term, name, string, anything, Expression, atom, truth, falsity, compare, matching, negation, conjunction, disjunction, implication, equivalence, exists, for-all, closure-of, compare-relations, literal, count-of, sum-of, ratio-of, compare-figures}
+use Rattle.definition.specs.Syntax.{Item, rows, word, line-end, amount, Program, end, assign, print, test, while, for, block}
 use Rattle.definition.specs.Answer.{ok}
 use Rattle.definition.specs.Names.{Role, before-terms, attribute-only, term, variable-only, after-for, enter, leave, Use, use-as, in-terms, in-expression, in-item, in-program, Known, nothing, attribute, variable, open-variable, relation, Rule, becomes, first, row, rule, Kinds, learn, use-name, use-names, is-variable}
 use Rattle.definition.proofs.BoolLaws.{decide, and-left, and-right, and-both}
@@ -106,6 +106,11 @@ plain-expression (exists x e) = plain-expression e
 plain-expression (for-all x e) = plain-expression e
 plain-expression (closure-of e) = plain-expression e
 plain-expression (compare-relations g a b) = plain-append (in-expression a) (in-expression b) (plain-expression a) (plain-expression b)
+plain-expression (literal t) = tt
+plain-expression (count-of e) = plain-expression e
+plain-expression (sum-of a b) = plain-append (in-expression a) (in-expression b) (plain-expression a) (plain-expression b)
+plain-expression (ratio-of a b) = plain-append (in-expression a) (in-expression b) (plain-expression a) (plain-expression b)
+plain-expression (compare-figures g a b) = plain-append (in-expression a) (in-expression b) (plain-expression a) (plain-expression b)
 
 plain-items : (is : List Item) → T (all-of plain-use (gather in-item is))
 unfolding gather in-item all-of
@@ -114,6 +119,7 @@ plain-items (rows ps e ∷ is) =
     plain-append (in-terms variable-only ps ++ in-expression e) (gather in-item is) (plain-append (in-terms variable-only ps) (in-expression e) (plain-terms variable-only tt ps) (plain-expression e)) (plain-items is)
 plain-items (word p ∷ is) = plain-append (in-terms variable-only (p ∷ [])) (gather in-item is) (plain-terms variable-only tt (p ∷ [])) (plain-items is)
 plain-items (line-end ∷ is) = plain-items is
+plain-items (amount e ∷ is) = plain-append (in-expression e) (gather in-item is) (plain-expression e) (plain-items is)
 
 -- what a FOR's name becomes, and what it was not
 abbrev Bound : Known → Rule → Type 0

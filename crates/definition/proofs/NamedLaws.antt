@@ -176,6 +176,10 @@ module _ (ts : List Token) (named : (x : ℕ) → token-at ts x .terminal ≡ na
   Claim Nonterminal.Primary e = NamedUses (in-expression e)
   Claim Nonterminal.Quantified f =
       (g : Token → Expression → Expression) → ((x : Token) (e : Expression) → T (is-name (x .text)) → NamedUses (in-expression e) → NamedUses (in-expression (g x e))) → NamedUses (in-expression (f g))
+  Claim Nonterminal.Quantity e = NamedUses (in-expression e)
+  Claim Nonterminal.Divisor f = (e : Expression) → NamedUses (in-expression e) → NamedUses (in-expression (f e))
+  Claim (Nonterminal.Summand b) e = NamedUses (in-expression e)
+  Claim (Nonterminal.MoreSummands k) f = (e : Expression) → NamedUses (in-expression e) → NamedUses (in-expression (f e))
 
   more : (p : Role) (t : Term) (ps : List Term) → NamedUses (in-terms p (t ∷ [])) → NamedUses (in-terms p ps) → NamedUses (in-terms p (t ∷ ps))
   more p t ps h hs = subst NamedUses (sym (terms-cons p t ps)) (every-both h hs)
@@ -272,6 +276,17 @@ module _ (ts : List Token) (named : (x : ℕ) → token-at ts x .terminal ≡ na
   names-of (Tree.pattern-atom s a) h = names-of a (left (flat a) _ (tail (tail (tail h)))) Role.term
   names-of (Tree.one-more-attribute x q) h = λ f g. g (token-at ts x) (says ts q f) (named x (head h)) (names-of q (tail (tail h)) f g)
   names-of (Tree.quantified-body e) h = λ f g. names-of e h
+  names-of (Tree.item-quantity q) h = names-of q h
+  names-of (Tree.figures a c b) h = every-both (names-of a (left (flat a) _ h)) (names-of b (tail (right (flat a) _ h)))
+  names-of (Tree.quantity a m v) h =
+      names-of v (right (flat m) _ (right (flat a) _ h)) (says ts m (says ts a)) (names-of m (left (flat m) _ (right (flat a) _ h)) (says ts a) (names-of a (left (flat a) _ h)))
+  names-of Tree.no-divisor h = λ e g. g
+  names-of (Tree.divisor a m) h = λ e g. every-both g (names-of m (right (flat a) _ (tail h)) (says ts a) (names-of a (left (flat a) _ (tail h))))
+  names-of Tree.end-summands h = λ e g. g
+  names-of (Tree.more-summands a m) h =
+      λ e g. names-of m (right (flat a) _ (tail h)) (Syntax.sum-of e (says ts a)) (every-both g (names-of a (left (flat a) _ (tail h))))
+  names-of (Tree.counted e) h = names-of e (left (flat e) _ (tail (tail h)))
+  names-of (Tree.literal o x) h = every-none
 
 -- every name that a program uses is a name
 pub names-used : (query : Text) (p : Program) → read-query query ≡ ok p → Every NamedUse (in-program p)

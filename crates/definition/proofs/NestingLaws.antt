@@ -1,34 +1,37 @@
 -- Programs that are read, statement by statement with their levels; FORs stand at most 32 deep, since each opens a block and the reader
 -- refuses the 33rd level.
-use mathlib.Core.Path.{_≡_, subst}
+use mathlib.Core.Path.{_≡_, refl, subst}
+use mathlib.Core.Bool.{false}
 use mathlib.Core.List.{List, [], _∷_, _++_}
 use Prim.Native.Nat.{ℕ, zero, suc, _+_, _≤_, _<_}
 use native.Mathlib.Omega.{arith}
+use native.Mathlib.Decide.{decLe}
 use lib.Dec.{ltb}
 use lib.ListN.{length, getD}
 use Rattle.definition.specs.Text.{Text}
 use Rattle.definition.specs.Limits.{NESTING, QUERY-BYTES, TOKENS}
 use Rattle.definition.specs.Token.{Token, terminals, place-at, lexed}
-use Rattle.definition.specs.Grammar.{Nonterminal, Tree, levels}
+use Rattle.definition.specs.Grammar.{Nonterminal, Tree, row, rows-met}
 use Rattle.definition.specs.Reader.{read-program}
 use Rattle.definition.specs.Syntax.{Expression, truth, Program, end, assign, print, test, while, for, block, Says, size, the, says}
 use Rattle.definition.specs.Answer.{ok, refuse-if}
 use Rattle.definition.specs.Accept.{read-query, lexed-answer, read-answer}
 use Rattle.definition.proofs.AnswerLaws.{GrammarRows, good, grammar-rows}
+use Rattle.definition.proofs.GrammarPlaces.{row-not}
 use Rattle.definition.proofs.AcceptLaws.{ok-injective, bind-ok, then-ok}
 
--- no level is over 32
-record Low (ns : List ℕ) : Type 0 where
-  each : (i : ℕ) → getD ns i 0 ≤ NESTING
+-- no row is met
+pub record Low (ns : List ℕ) : Type 0 where
+  pub each : (i : ℕ) → getD ns i 0 ≡ 0
 
-low-rest : {n : ℕ} {ns : List ℕ} → Low (n ∷ ns) → Low ns
+pub low-rest : {n : ℕ} {ns : List ℕ} → Low (n ∷ ns) → Low ns
 low-rest h = record { each = λ i. h .each (suc i) }
 
-low-left : (ms ns : List ℕ) → Low (ms ++ ns) → Low ms
-low-left [] ns h = record { each = λ i. omega arith }
+pub low-left : (ms ns : List ℕ) → Low (ms ++ ns) → Low ms
+low-left [] ns h = record { each = λ i. refl }
 low-left (m ∷ ms) ns h = record { each = elim [ zero ↦ h .each 0 | suc i ↦ low-left ms ns (low-rest h) .each i ] }
 
-low-right : (ms ns : List ℕ) → Low (ms ++ ns) → Low ns
+pub low-right : (ms ns : List ℕ) → Low (ms ++ ns) → Low ns
 low-right [] ns h = h
 low-right (m ∷ ms) ns h = low-right ms ns (low-rest h)
 
@@ -36,8 +39,12 @@ low-inside : (d : ℕ) (ms ns : List ℕ) → Low (d ∷ (ms ++ (ns ++ (d ∷ []
 low-inside d ms ns h = (low-left ms (ns ++ (d ∷ [])) (low-rest h), low-left ns (d ∷ []) (low-right ms (ns ++ (d ∷ [])) (low-rest h)))
 
 -- a block is one level deeper
-low-block : (b : Tree Nonterminal.Block) (d : ℕ) → Low (levels b d) → d < NESTING
-low-block (Tree.block a b) d h = h .each 0
+low-block : (b : Tree Nonterminal.Block) (d : ℕ) → Low (rows-met b d) → d < NESTING
+low-block (Tree.block a b) d h = shallow d (decLe (suc d) NESTING) (h .each 0)
+  where
+    shallow : (d : ℕ) → Dec (suc d ≤ NESTING) → row false (suc d) ≡ 0 → d < NESTING
+    shallow d (yes h) e = h
+    shallow d (no h) e = absurd (omega (arith, e, row-not (suc d) (omega arith)))
 
 -- what holds of a program at a level, if it does so statement by statement: a block is one level deeper
 pub record Steps (ts : List Token) (P : ℕ → Program → Type 0) : Type 0 where
@@ -77,32 +84,36 @@ module _ (ts : List Token) (P : ℕ → Program → Type 0) (step : Steps ts P) 
   Holds Nonterminal.Negation x d = Unit {0}
   Holds Nonterminal.Primary x d = Unit {0}
   Holds Nonterminal.Quantified x d = Unit {0}
+  Holds Nonterminal.Quantity x d = Unit {0}
+  Holds Nonterminal.Divisor x d = Unit {0}
+  Holds (Nonterminal.Summand b) x d = Unit {0}
+  Holds (Nonterminal.MoreSummands k) x d = Unit {0}
 
-  holds : {n : Nonterminal} (t : Tree n) (d : ℕ) → Low (levels t d) → Holds n (says ts t) d
+  holds : {n : Nonterminal} (t : Tree n) (d : ℕ) → Low (rows-met t d) → Holds n (says ts t) d
   unfolding says
-  holds (Tree.program a b) d h = holds a d (low-left (levels a d) (levels b d) h) 0 (says ts b (size a)) (holds b d (low-right (levels a d) (levels b d) h) (size a))
+  holds (Tree.program a b) d h = holds a d (low-left (rows-met a d) (rows-met b d) h) 0 (says ts b (size a)) (holds b d (low-right (rows-met a d) (rows-met b d) h) (size a))
   holds Tree.end-statements d h = λ i. step .at-end d
   holds (Tree.more-statements a b) d h =
-      λ i. holds a d (low-left (levels a d) (levels b d) h) i (says ts b (i + size a)) (holds b d (low-right (levels a d) (levels b d) h) (i + size a))
+      λ i. holds a d (low-left (rows-met a d) (rows-met b d) h) i (says ts b (i + size a)) (holds b d (low-right (rows-met a d) (rows-met b d) h) (i + size a))
   holds (Tree.assignment r u e) d h = λ i k g. step .at-assign d (the ts i .at) (the ts r) u (says ts e) k g
   holds (Tree.assertion r u) d h = λ i k g. step .at-assign d (the ts i .at) (the ts r) u (truth (says ts u)) k g
   holds (Tree.conditional e a b) d h =
-      let hs = low-right (levels e d) (levels a d ++ levels b d) (low-rest h) in
+      let hs = low-right (rows-met e d) (rows-met a d ++ rows-met b d) (low-rest h) in
       λ i k g.
       step .at-test d (the ts i .at) (says ts e) (says ts a (suc i + size e)) (says ts b (suc i + size e + size a)) k
-      (holds a d (low-left (levels a d) (levels b d) hs) (suc i + size e)) (holds b d (low-right (levels a d) (levels b d) hs) (suc i + size e + size a)) g
+      (holds a d (low-left (rows-met a d) (rows-met b d) hs) (suc i + size e)) (holds b d (low-right (rows-met a d) (rows-met b d) hs) (suc i + size e + size a)) g
   holds (Tree.while-loop e a) d h =
-      λ i k g. step .at-while d (the ts i .at) (says ts e) (says ts a (suc i + size e)) k (holds a d (low-right (levels e d) (levels a d) (low-rest h)) (suc i + size e)) g
+      λ i k g. step .at-while d (the ts i .at) (says ts e) (says ts a (suc i + size e)) k (holds a d (low-right (rows-met e d) (rows-met a d) (low-rest h)) (suc i + size e)) g
   holds (Tree.for-loop v e a) d h =
-      let hs = low-right (levels e d) (levels a d) (low-rest (low-rest (low-rest h))) in
+      let hs = low-right (rows-met e d) (rows-met a d) (low-rest (low-rest (low-rest h))) in
       λ i k g. step .at-for d (the ts i .at) (the ts v) (says ts e) (says ts a (3 + i + size e)) k (low-block a d hs) (holds a d hs (3 + i + size e)) g
   holds (Tree.nested-block a b) d h =
-      let (f, g) = low-inside (suc d) (levels a (suc d)) (levels b (suc d)) h in
+      let (f, g) = low-inside (row false (suc d)) (rows-met a (suc d)) (rows-met b (suc d)) h in
       λ i k q.
       step .at-block d (says ts a (suc i) (says ts b (suc i + size a))) k (holds a (suc d) f (suc i) (says ts b (suc i + size a)) (holds b (suc d) g (suc i + size a))) q
   holds (Tree.print-statement a b) d h = λ i k g. step .at-print d (the ts i .at) a b k g
   holds (Tree.block a b) d h =
-      let (f, g) = low-inside (suc d) (levels a (suc d)) (levels b (suc d)) h in
+      let (f, g) = low-inside (row false (suc d)) (rows-met a (suc d)) (rows-met b (suc d)) h in
       λ i. holds a (suc d) f (suc i) (says ts b (suc i + size a)) (holds b (suc d) g (suc i + size a))
   holds Tree.no-else d h = λ i. step .at-end (suc d)
   holds (Tree.else-block a) d h = λ i. holds a d (low-rest h) (suc i)
@@ -155,8 +166,17 @@ module _ (ts : List Token) (P : ℕ → Program → Type 0) (step : Steps ts P) 
   holds (Tree.pattern-atom s a) d h = tt
   holds (Tree.one-more-attribute x q) d h = tt
   holds (Tree.quantified-body e) d h = tt
+  holds (Tree.item-quantity q) d h = tt
+  holds (Tree.figures a g b) d h = tt
+  holds (Tree.quantity a m v) d h = tt
+  holds Tree.no-divisor d h = tt
+  holds (Tree.divisor a m) d h = tt
+  holds Tree.end-summands d h = tt
+  holds (Tree.more-summands a m) d h = tt
+  holds (Tree.counted e) d h = tt
+  holds (Tree.literal o x) d h = tt
 
-low-tree : {n : ℕ} {ts : List Token} {t : Tree Nonterminal.Program} → GrammarRows n ts (ok t) → Low (levels t 0)
+pub low-tree : {n : ℕ} {ts : List Token} {t : Tree Nonterminal.Program} → GrammarRows n ts (ok t) → Low (rows-met t 0)
 low-tree (good g) = record { each = g .within }
 
 -- so it holds of a program that is read

@@ -10,7 +10,7 @@ use Rattle.definition.specs.Text.{Text, all-of, gather}
 use Rattle.definition.specs.Limits.{ATTRIBUTES, CLOSURES, PRINTED-ATTRIBUTES}
 use Rattle.definition.specs.Syntax.{Expression, Program, end, assign, print, test, while, for, block}
 use Rattle.definition.specs.Answer.{Answer, ok, _>>_, refuse-if}
-use Rattle.definition.specs.Names.{attribute-only, Use, in-terms, in-expression, in-item, attributes, free, closures, attribute-names, statement-rows, subset, item-expressions, program-rows}
+use Rattle.definition.specs.Names.{attribute-only, Use, in-terms, in-expression, in-item, attributes, free, closures, counted-in, attribute-names, statement-rows, subset, item-expressions, program-rows}
 use Rattle.definition.proofs.BoolLaws.{or-eq-false}
 use Rattle.definition.proofs.AcceptLaws.{then-ok, was-ok, not-refused}
 
@@ -31,11 +31,12 @@ every P p f (e ∷ es) h =
 
 -- `vs` says which names are loop variables
 module _ (vs : Text → Bool) where
-  -- a statement with the names us and the expressions es: "at most 4 attribute names and 16 closures a statement", "TC and TCFAST two"
+  -- a statement with the names us and the expressions es: "at most 4 attribute names and 16 closures a statement", "TC and TCFAST two", `#(e)` "no more free attributes than a printed expression may"
   pub record StatementOk (us : List Use) (es : List Expression) : Type 0 where
     pub few-attributes : length (attribute-names vs us) ≤ ATTRIBUTES
     pub few-closures : length (gather closures es) ≤ CLOSURES
     pub closed : Every (λ e. length (free vs e) ≡ 2) (gather closures es)
+    pub counted : Every (λ e. length (free vs e) ≤ PRINTED-ATTRIBUTES) (gather counted-in es)
 
   -- a program, statement by statement: the limits of each, then what its free attributes are
   unfoldable pub RowsOk : Program → Type 0
@@ -57,15 +58,20 @@ module _ (vs : Text → Bool) where
   statement-ok i us es right q h =
       let cs = gather closures es in
       let many = ltb ATTRIBUTES (length (attribute-names vs us)) || ltb CLOSURES (length cs) in
-      let fits = right && all-of (λ (c : Expression). eqb (length (free vs c)) 2) cs in
+      let ns = gather counted-in es in
+      let pairs = all-of (λ (c : Expression). eqb (length (free vs c)) 2) cs in
+      let few = all-of (λ (c : Expression). leb (length (free vs c)) PRINTED-ATTRIBUTES) ns in
+      let fits = right && (pairs && few) in
       let (e, g) = both-ok (statement-rows vs i us es right) q h in
       let (e₁, e₂) = both-ok (refuse-if many 13 i) (refuse-if (not fits) 12 i) e in
       let (a, b) = or-eq-false (ltb ATTRIBUTES (length (attribute-names vs us))) (ltb CLOSURES (length cs)) (not-refused many 13 i e₁) in
-      let (c, d) = and-eq-true-iff right (all-of (λ (c : Expression). eqb (length (free vs c)) 2) cs) .0 (not-false fits (not-refused (not fits) 12 i e₂)) in
+      let (c, f) = and-eq-true-iff right (pairs && few) .0 (not-false fits (not-refused (not fits) 12 i e₂)) in
+      let (d, n) = and-eq-true-iff pairs few .0 f in
       let limits : StatementOk us es = record {
         few-attributes = ltb-false ATTRIBUTES (length (attribute-names vs us)) a;
         few-closures = ltb-false CLOSURES (length cs) b;
         closed = every _ _ (λ x h. eqb-true (length (free vs x)) 2 h) cs d;
+        counted = every _ _ (λ x h. leb-true (length (free vs x)) PRINTED-ATTRIBUTES h) ns n;
       } in
       (limits, c, g)
 

@@ -10,8 +10,8 @@ use borrow.Author.Tests.{ltb-false}
 use Rattle.definition.specs.Text.{Text, same, member, some-of, gather}
 use Rattle.definition.specs.Limits.{Limits, ARITY}
 use Rattle.definition.specs.Token.{Token}
-use Rattle.definition.specs.Syntax.{Term, name, string, anything, Expression, atom, truth, falsity, compare, matching, negation, conjunction, disjunction, implication, equivalence, exists, for-all, closure-of, compare-relations}
-use Rattle.definition.specs.Syntax.{Item, rows, word, line-end, Program, end, assign, print, test, while, for, block}
+use Rattle.definition.specs.Syntax.{Term, name, string, anything, Expression, atom, truth, falsity, compare, matching, negation, conjunction, disjunction, implication, equivalence, exists, for-all, closure-of, compare-relations, literal, count-of, sum-of, ratio-of, compare-figures}
+use Rattle.definition.specs.Syntax.{Item, rows, word, line-end, amount, Program, end, assign, print, test, while, for, block}
 use Rattle.definition.specs.Answer.{Answer, ok, _>>=_}
 use Rattle.definition.specs.Facts.{Relation}
 use Rattle.definition.specs.Names.{Role, before-terms, attribute-only, term, variable-only, after-for, enter, leave, Use, use-as, in-terms, in-expression, in-item, in-program, Known, nothing, attribute, variable, open-variable, relation, Rule, becomes, first, row, rule, Kinds, use-name, use-names, numbered, fact-kinds, variables}
@@ -75,11 +75,17 @@ module _ (k : Kinds) (scope : List Text) where
   ScopedExpression (for-all x e) = IsAttribute k (x .text) × ScopedExpression e
   ScopedExpression (closure-of e) = ScopedExpression e
   ScopedExpression (compare-relations g a b) = ScopedExpression a × ScopedExpression b
+  ScopedExpression (literal t) = Unit {0}
+  ScopedExpression (count-of e) = ScopedExpression e
+  ScopedExpression (sum-of a b) = ScopedExpression a × ScopedExpression b
+  ScopedExpression (ratio-of a b) = ScopedExpression a × ScopedExpression b
+  ScopedExpression (compare-figures g a b) = ScopedExpression a × ScopedExpression b
 
   abbrev pub ScopedItem : Item → Type 0
   ScopedItem (rows ps e) = AllNamed InScope ps × ScopedExpression e
   ScopedItem (word p) = Named InScope p
   ScopedItem line-end = Unit {0}
+  ScopedItem (amount e) = ScopedExpression e
 
   unfoldable pub ScopedItems : List Item → Type 0
   ScopedItems [] = Unit {0}
@@ -317,6 +323,11 @@ module _ (limits : Limits) (k : Kinds) where
   scoped-expression s (for-all x e) = scopes-then (scopes-attribute s x) (scoped-expression s e)
   scoped-expression s (closure-of e) = scoped-expression s e
   scoped-expression s (compare-relations g a b) = scopes-then (scoped-expression s a) (scoped-expression s b)
+  scoped-expression s (literal t) = scopes-none
+  scoped-expression s (count-of e) = scoped-expression s e
+  scoped-expression s (sum-of a b) = scopes-then (scoped-expression s a) (scoped-expression s b)
+  scoped-expression s (ratio-of a b) = scopes-then (scoped-expression s a) (scoped-expression s b)
+  scoped-expression s (compare-figures g a b) = scopes-then (scoped-expression s a) (scoped-expression s b)
 
   scoped-items : (s : List Text) (is : List Item) → Scopes s s (gather in-item is) (ScopedItems k s is)
   unfolding gather in-item ScopedItems AllNamed
@@ -324,6 +335,7 @@ module _ (limits : Limits) (k : Kinds) where
   scoped-items s (rows ps e ∷ is) = scopes-then (scopes-then (scoped-words s ps) (scoped-expression s e)) (scoped-items s is)
   scoped-items s (word p ∷ is) = scopes-then (scopes-map (λ h. h .0) (scoped-words s (p ∷ []))) (scoped-items s is)
   scoped-items s (line-end ∷ is) = scopes-map (λ h. (tt, h)) (scoped-items s is)
+  scoped-items s (amount e ∷ is) = scopes-then (scoped-expression s e) (scoped-items s is)
 
   -- a loop's block begins and ends
   scopes-enter : (s : List Text) (v : Token) → Scopes s (v .text ∷ s) (use-as enter v ∷ []) (Unit {0})

@@ -1,5 +1,5 @@
 // Runs the worked cases of document 01, texts that a wrong engine would answer otherwise, patterns, elements in quotes, numbers of tuples,
-// and texts that are refused, each with its own budget, store and output. Prints the case's letter, what the text is for or the row, with the
+// quantities, and texts that are refused, each with its own budget, store and output. Prints the case's letter, what the text is for or the row, with the
 // query; then what the calls answer and how many bytes of the output are as they were lent, or how many tuples each relation has.
 use definition::Checked;
 use definition::Figures;
@@ -260,6 +260,14 @@ fn all_elements() {
         1152,
         256,
     );
+    run(
+        b"each element counted",
+        facts,
+        b"PRINT #(x = x), \" \", #(R(x,y)), \" \", #(TRUE(x,y,z)), ENDL;",
+        1,
+        1152,
+        256,
+    );
 }
 
 // "The same facts saved either way .. load to the same tables": cases A and B, but for offsets.
@@ -359,6 +367,67 @@ fn repeated() {
     sizes(b"stated again", facts, b"PRINT ENDL;", 1, 1);
 }
 
+// "held bonds on this curve over all held bonds": counts, sums and ratios as items.
+fn shares<'a>(facts: &'a [u8]) {
+    run_all(
+        b"a share",
+        facts,
+        b"PRINT #(Held(x) & On(x,_)) / #(On(x,_)), ENDL;",
+    );
+    run_all(
+        b"sums",
+        facts,
+        b"PRINT #(On(x,y)), \" \", #(On(x,y) & On(y,z)), \" \", #(Held(x)) + 999999 + 007, ENDL;",
+    );
+    run_all(
+        b"reduced",
+        facts,
+        b"PRINT 6 / 4, \" \", 0 / 5, \" \", 4 / 2, \" \", 3 / 0, ENDL;",
+    );
+    run_all(
+        b"counts in counts, of truth, of a closure",
+        facts,
+        b"PRINT #(#(On(x,y)) = 3), #(!(#(On(x,y)) = 3)), #(TRUE()), #(TRUE(x)), #(TC(On(x,y))), ENDL;",
+    );
+}
+
+// "It hides outer attributes", loop variables stay; "Ratios compare by cross products", none of them over 0.
+fn compared<'a>(facts: &'a [u8]) {
+    run_all(
+        b"hides outer attributes",
+        facts,
+        b"PRINT On(x,_) & (#(On(x,y)) = 3);",
+    );
+    run_all(
+        b"loop variables",
+        facts,
+        b"FOR c IN On(x,_) { PRINT #(On(c,x)), #(On(x,c)); } PRINT ENDL;",
+    );
+    run_all(
+        b"cross products",
+        facts,
+        b"IF 1 / 3 < #(Held(x)) / 2 { PRINT 1; } IF 2 / 4 = 1 / 2 { PRINT 2; } IF 1 / 0 != 1 { PRINT 3; } PRINT ENDL;",
+    );
+    run_all(
+        b"sums",
+        facts,
+        b"IF #(On(x,y)) + 1 > 3 + 1 { PRINT 1; } IF #(On(x,y)) + 1 >= 2 + 2 { PRINT 2; } PRINT ENDL;",
+    );
+}
+
+fn shares_refused<'a>(facts: &'a [u8]) {
+    run_all(b"row 9", facts, b"PRINT 000000000000000000000000000000001;");
+    run_all(b"row 10", facts, b"IF #(Held(x)) { P(); }");
+    run_all(b"row 10", facts, b"PRINT 1+1+1+1+1+1+1+1+;");
+    run_all(b"row 19", facts, b"PRINT 1000000;");
+    run_all(b"row 19", facts, b"PRINT 1+1+1+1+1+1+1+1+#(Held(x));");
+    run_all(
+        b"row 12",
+        facts,
+        b"PRINT #(Held(w) & Held(x) & Held(y) & Held(z));",
+    );
+}
+
 fn main() {
     let f = b"On C10 C5\nOn C5 C2\nOn B7 C10\nHeld B7\n";
     let dep = b"Dep(x,y) := TC(On(x,y)); PRINT [\"Dep\"] Dep(x,y);";
@@ -378,4 +447,7 @@ fn main() {
     quotes();
     counted(f, dep);
     repeated();
+    shares(f);
+    compared(f);
+    shares_refused(f);
 }

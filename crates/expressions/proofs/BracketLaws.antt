@@ -1,4 +1,4 @@
--- What stands in brackets at a level of its own: groups, closures, quantifiers.
+-- What stands in brackets at a level of its own: groups, closures, counts, quantifiers.
 use mathlib.Core.Bool.{Bool, true, false}
 use mathlib.Core.List.{List, [], _∷_, _++_, map, append-assoc, append-nil}
 use mathlib.Core.Logic.{_⊎_, ⊎-elim}
@@ -10,25 +10,25 @@ use lib.ListN.{length, drop}
 use lib.Seq.{sets}
 use borrow.Author.Tests.{eqb-true, eqb-false}
 use Rattle.definition.proofs.GrammarReads.{Rule, Stands, Reads, Fails, read!, fail!, deep!, as!, as-fails!, _▸_, _▹_, stop!, done!, closed!, level, token!, no-token!, name!, no-name! }
-use Rattle.definition.proofs.GrammarExpressions.{group-rule, ex-rule, fa-rule, tc-rule, tcfast-rule, one-more!, one-more-fails!, body-rule, body-name-rule}
-use Rattle.definition.specs.Grammar.{Tree, Expression, Primary, Quantified}
+use Rattle.definition.proofs.GrammarExpressions.{group-rule, ex-rule, fa-rule, tc-rule, tcfast-rule, counted-rule, one-more!, one-more-fails!, body-rule, body-name-rule}
+use Rattle.definition.specs.Grammar.{Nonterminal, Tree, Expression, Primary, Quantified, Summand}
 use Rattle.definition.specs.Grammar as Grammar
 use Rattle.definition.specs.Reader.{Symbol, Forest, phrase, fixed, identifier, level-end}
 use Rattle.definition.specs.Syntax as Syntax
-use Rattle.definition.specs.Syntax.{says, exists, for-all, closure-of}
-use Rattle.definition.specs.Token.{Token, Terminal, token-at, key, name, LPAREN, RPAREN, COMMA, EX, FA, TC, TCFAST}
+use Rattle.definition.specs.Syntax.{says, exists, for-all, closure-of, count-of}
+use Rattle.definition.specs.Token.{Token, Terminal, token-at, key, name, LPAREN, RPAREN, COMMA, EX, FA, TC, TCFAST, HASH}
 use Rattle.expressions.proofs.OperatorLaws.{one-wrote}
-use Rattle.expressions.specs.Operators.{Wrapped, WrapRoom, Names, no-more, one-more, attribute, Bound, Unbound, no-bracket, no-name, no-comma, bound, IsBound, binders, Binds, BindRoom, Quantifier, is-ex, is-fa, IsClosure, is-tc, is-tcfast}
+use Rattle.expressions.specs.Operators.{Wrapped, WrapRoom, Names, no-more, one-more, attribute, Bound, Unbound, no-bracket, no-name, no-comma, bound, IsBound, binders, Binds, BindRoom, Quantifier, is-ex, is-fa, Applies, is-tc, is-tcfast, is-hash, Applied}
 use Rattle.lexer.specs.Tokens.{NAME}
 use Rattle.terms.proofs.AtomLaws.{refused}
-use Rattle.terms.proofs.TokenLaws.{kind-within, key-first, key-then, name-first, name-then, name-number, not-key, not-name, closed-cases}
+use Rattle.terms.proofs.TokenLaws.{kind-within, key-first, key-then, mark-first, name-first, name-then, name-number, not-key, not-name, closed-cases}
 use Rattle.terms.proofs.WriteLaws.{wrote-then, wrote-as}
 use Rattle.terms.specs.declared.Answer.{Answer}
 use Rattle.terms.specs.declared.Answer.the-variants.{Read, Refused}
-use Rattle.terms.specs.Phrases.{kind-in, seen, closed, Holds, Wrote, IsPrimary, IsExpression}
+use Rattle.terms.specs.Phrases.{kind-in, seen, closed, Holds, Wrote, Meaning, Parsed, IsPrimary, IsExpression}
 use Rattle.terms.specs.Terms.{Plain}
 use Rattle.words.proofs.Sizes.{length-flat}
-use Rattle.words.specs.Fields.{word, ATTRIBUTE, EXISTS, FOR-ALL, CLOSURE}
+use Rattle.words.specs.Fields.{word, ATTRIBUTE, EXISTS, FOR-ALL, CLOSURE, COUNT}
 use Rattle.words.specs.Raw.{flat, size, number}
 
 -- an expression at level d + 1 and the bracket after it
@@ -101,61 +101,75 @@ group-reads {ws} {p} {n} {d} {A} {A′} {b} l e h = by b h
 pub group-deep : {ws : List ℕ} {p n d : ℕ} {A B : List ℕ} → 32 ≤ d → kind-in ws p ≡ LPAREN → IsPrimary ws p n d A B (Refused 13 p)
 group-deep {ws} {p} l e = let i = kind-within ws p (omega arith) in refused (omega arith) (deep! group-rule (omega arith) (key-first ws p e (omega arith)))
 
--- TC and TCFAST
-record ClosureLaw (k : ℕ) : Type 0 where
-  low : k < 41
-  tree : Tree Expression → Tree Primary
-  takes : Rule (phrase Primary) (key k) (fixed LPAREN ∷ phrase Expression ∷ fixed RPAREN ∷ level-end ∷ []) (λ fs. tree (fs .1 .0))
-  said : (ts : List Token) (t : Tree Expression) → closure-of (says ts t) ≡ says ts (tree t)
+-- what stands before an expression in brackets
+pub record AppliedLaw (t k : ℕ) (x : Nonterminal) (e : Meaning x) : Type 0 where
+  pub low : t < 64
+  pub first : (ws : List ℕ) (p : ℕ) → kind-in ws p ≡ t → drop p (seen ws) ≡ key t ∷ drop (p + 1) (seen ws)
+  pub tree : Tree Expression → Tree x
+  pub takes : Rule (phrase x) (key t) (fixed LPAREN ∷ phrase Expression ∷ fixed RPAREN ∷ level-end ∷ []) (λ fs. tree (fs .1 .0))
+  pub op : Syntax.Expression → Syntax.Expression
+  pub said : (ts : List Token) (a : Tree Expression) → op (says ts a) ≡ e ts (tree a)
+  pub words : (a : Syntax.Expression) (n : ℕ) → flat (op a) n ≡ flat a n ++ (word k (n + size a - 1) 0 0 ∷ [])
 
-tc-law : ClosureLaw TC
-unfolding says
-tc-law = record { low = omega arith; tree = Grammar.tc; takes = tc-rule; said = λ ts t. refl }
+tc-law : AppliedLaw TC CLOSURE Primary (λ ts t. says ts t)
+unfolding says flat
+tc-law = record { low = omega arith; first = λ ws p e. key-first ws p e (omega arith); tree = Grammar.tc; takes = tc-rule; op = closure-of; said = λ ts a. refl; words = λ a n. refl }
 
-tcfast-law : ClosureLaw TCFAST
-unfolding says
-tcfast-law = record { low = omega arith; tree = Grammar.tcfast; takes = tcfast-rule; said = λ ts t. refl }
+tcfast-law : AppliedLaw TCFAST CLOSURE Primary (λ ts t. says ts t)
+unfolding says flat
+tcfast-law = record { low = omega arith; first = λ ws p e. key-first ws p e (omega arith); tree = Grammar.tcfast; takes = tcfast-rule; op = closure-of; said = λ ts a. refl; words = λ a n. refl }
 
-closure-words : (a : Syntax.Expression) (n : ℕ) → flat (closure-of a) n ≡ flat a n ++ (word CLOSURE (n + size a - 1) 0 0 ∷ [])
-unfolding flat
-closure-words a n = refl
+hash-law : AppliedLaw HASH COUNT (Summand false) (λ ts t. says ts t)
+unfolding says flat
+hash-law = record { low = omega arith; first = λ ws p e. mark-first ws p e (omega arith) (omega arith); tree = λ a. Grammar.counted a; takes = counted-rule; op = count-of; said = λ ts a. refl; words = λ a n. refl }
 
-closure-law : {k : ℕ} → IsClosure k → ClosureLaw k
-closure-law is-tc = tc-law
-closure-law is-tcfast = tcfast-law
+-- what holds of each of them
+by-law : {t k : ℕ} (P : (x : Nonterminal) → Meaning x → Type 0) → Applies t k → ((x : Nonterminal) (e : Meaning x) → AppliedLaw t k x e → P x e) → (k ≡ CLOSURE → P Primary (λ ts t. says ts t)) × (k ≡ COUNT → P (Summand false) (λ ts t. says ts t))
+by-law P is-tc f = (λ e. f Primary (λ ts t. says ts t) tc-law, λ e. absurd (omega arith))
+by-law P is-tcfast f = (λ e. f Primary (λ ts t. says ts t) tcfast-law, λ e. absurd (omega arith))
+by-law P is-hash f = (λ e. absurd (omega arith), λ e. f (Summand false) (λ ts t. says ts t) hash-law)
 
-module _ (ws : List ℕ) (p n d : ℕ) (A : List ℕ) (c : IsClosure (kind-in ws p)) where
-  pub closure-within : p < length ws
-  closure-within = kind-within ws p (omega (arith, (closure-law c) .low))
+pub applies-small : {t k : ℕ} → Applies t k → (t < 64) × (k < 256)
+applies-small is-tc = (omega arith, omega arith)
+applies-small is-tcfast = (omega arith, omega arith)
+applies-small is-hash = (omega arith, omega arith)
 
-  pub closure-deep : {B : List ℕ} → 32 ≤ d → IsPrimary ws p n d A B (Refused 13 p)
-  closure-deep l = let i = closure-within in refused (omega arith) (deep! ((closure-law c) .takes) (omega arith) (key-first ws p refl ((closure-law c) .low)))
+module _ (ws : List ℕ) (p n d k : ℕ) (A : List ℕ) (c : Applies (kind-in ws p) k) where
+  pub applied-within : p < length ws
+  applied-within = kind-within ws p (applies-small c .0)
 
-  pub closure-open : {B : List ℕ} → d < 32 → (kind-in ws (p + 1) ≡ LPAREN → ⊥) → IsPrimary ws p n d A B (Refused 10 (p + 1))
-  closure-open l e = let i = closure-within in refused (omega arith) (fail! ((closure-law c) .takes) (omega arith) (key-first ws p refl ((closure-law c) .low)) (stop! (no-token! (not-key ws (p + 1) e))))
+  -- by one law over both phrases
+  both : (B : List ℕ) (r : Answer) → ((x : Nonterminal) (e : Meaning x) → AppliedLaw (kind-in ws p) k x e → Parsed x e ws p n d A B r) → Applied ws p n d k A B r
+  both B r f = let h = by-law (λ x e. Parsed x e ws p n d A B r) c f in record { closure = h .0; count = h .1 }
 
-  pub closure-reads : {A₁ A₂ : List ℕ} {b r : Answer} → d < 32 → kind-in ws (p + 1) ≡ LPAREN → InBrackets ws (p + 2) n d A A₁ b → Wrapped CLOSURE A₁ A₂ b r → IsPrimary ws p n d A A₂ r
-  closure-reads {A₁} {A₂} {b} {r} l e h j = by b h j
+  pub applied-deep : {B : List ℕ} → 32 ≤ d → Applied ws p n d k A B (Refused 13 p)
+  applied-deep {B} l = let i = applied-within in both B (Refused 13 p) (λ x e w. refused (omega arith) (deep! (w .takes) (omega arith) (w .first ws p refl)))
+
+  pub applied-open : {B : List ℕ} → d < 32 → (kind-in ws (p + 1) ≡ LPAREN → ⊥) → Applied ws p n d k A B (Refused 10 (p + 1))
+  applied-open {B} l u = let i = applied-within in both B (Refused 10 (p + 1)) (λ x e w. refused (omega arith) (fail! (w .takes) (omega arith) (w .first ws p refl) (stop! (no-token! (not-key ws (p + 1) u)))))
+
+  pub applied-reads : {A₁ A₂ : List ℕ} {b r : Answer} → d < 32 → kind-in ws (p + 1) ≡ LPAREN → InBrackets ws (p + 2) n d A A₁ b → Wrapped k A₁ A₂ b r → Applied ws p n d k A A₂ r
+  applied-reads {A₁} {A₂} {b} {r} l u h j = both A₂ r (λ x e w. by x e w b h j)
     where
       opened : Reads (suc d) (fixed LPAREN ∷ []) (drop (p + 1) (seen ws)) (tt, tt) (drop (p + 2) (seen ws))
-      opened = token! (omega arith) (key-then ws (p + 1) (p + 2) (omega arith) e (omega arith))
+      opened = token! (omega arith) (key-then ws (p + 1) (p + 2) (omega arith) u (omega arith))
 
-      by : (b : Answer) → InBrackets ws (p + 2) n d A A₁ b → Wrapped CLOSURE A₁ A₂ b r → IsPrimary ws p n d A A₂ r
-      by (Read q m) h j =
+      stopped : {x : Nonterminal} {e : Meaning x} {row q : ℕ} → AppliedLaw (kind-in ws p) k x e → Unclosed ws d (p + 2) row q → Fails d (phrase x ∷ []) (drop p (seen ws)) row (drop q (seen ws))
+      stopped w (body-fails f) = fail! (w .takes) (omega arith) (w .first ws p refl) (opened ▹ stop! f)
+      stopped w (no-close {q} t f v) = fail! (w .takes) (omega arith) (w .first ws p refl) (opened ▹ f ▹ stop! (no-token! (not-key ws q v)))
+
+      by : (x : Nonterminal) (e : Meaning x) → AppliedLaw (kind-in ws p) k x e → (b : Answer) → InBrackets ws (p + 2) n d A A₁ b → Wrapped k A₁ A₂ b r → Parsed x e ws p n d A A₂ r
+      by x e w (Read q m) h j =
           let o = h .bounds in
-          subst (IsPrimary ws p n d A A₂) (sym (j .0)) (record {
+          subst (Parsed x e ws p n d A A₂) (sym (j .0)) (record {
             bounds = record { more = omega arith; paid = omega arith; within = o .within };
             at = λ ts g. let f = h .at ts g in record {
-              tree = (closure-law c) .tree (f .tree);
-              reads = read! ((closure-law c) .takes) (omega arith) (key-first ws p refl ((closure-law c) .low)) (opened ▸ f .reads ▸ token! (omega arith) (f .bracket) ▸ closed! ▸ done!);
-              wrote = subst (Wrote A n (flat (says ts ((closure-law c) .tree (f .tree))) n) (m + 1)) (sym (j .1)) (wrote-as (ap (λ e. flat e n) ((closure-law c) .said ts (f .tree))) (one-wrote CLOSURE closure-of closure-words (says ts (f .tree)) (f .wrote)));
+              tree = w .tree (f .tree);
+              reads = read! (w .takes) (omega arith) (w .first ws p refl) (opened ▸ f .reads ▸ token! (omega arith) (f .bracket) ▸ closed! ▸ done!);
+              wrote = subst (Wrote A n (flat (e ts (w .tree (f .tree))) n) (m + 1)) (sym (j .1)) (wrote-as (ap (λ e. flat e n) (w .said ts (f .tree))) (one-wrote k (w .op) (w .words) (says ts (f .tree)) (f .wrote)));
             };
           })
-      by (Refused row q) h j = subst (IsPrimary ws p n d A A₂) (sym j) (record { bounds = h .bounds; at = λ ts g. stopped (h .at ts g) })
-        where
-          stopped : {row q : ℕ} → Unclosed ws d (p + 2) row q → Fails d (phrase Primary ∷ []) (drop p (seen ws)) row (drop q (seen ws))
-          stopped (body-fails f) = fail! ((closure-law c) .takes) (omega arith) (key-first ws p refl ((closure-law c) .low)) (opened ▹ stop! f)
-          stopped (no-close {q} t f u) = fail! ((closure-law c) .takes) (omega arith) (key-first ws p refl ((closure-law c) .low)) (opened ▹ f ▹ stop! (no-token! (not-key ws q u)))
+      by x e w (Refused row q) h j = subst (Parsed x e ws p n d A A₂) (sym j) (record { bounds = h .bounds; at = λ ts g. stopped w (h .at ts g) })
 
 -- the attributes of a quantifier and its body
 abbrev nest : List ℕ → Tree Expression → Tree Quantified
@@ -350,12 +364,15 @@ ex-here e = subst (λ t. Quantifier t EXISTS) (sym e) is-ex
 pub fa-here : {t : ℕ} → t ≡ FA → Quantifier t FOR-ALL
 fa-here e = subst (λ t. Quantifier t FOR-ALL) (sym e) is-fa
 
-pub closure-here : (k t : ℕ) → k ≡ t → 35 ≤ k → k < 37 → IsClosure t
+pub closure-here : (k t : ℕ) → k ≡ t → 35 ≤ k → k < 37 → Applies t CLOSURE
 closure-here k t e a b = at (eqb t TC) refl
   where
-    at : (c : Bool) → eqb t TC ≡ c → IsClosure t
-    at true c = subst IsClosure (sym (eqb-true t TC c)) is-tc
-    at false c = let f = eqb-false t TC c in let g : t ≡ TCFAST = omega arith in subst IsClosure (sym g) is-tcfast
+    at : (c : Bool) → eqb t TC ≡ c → Applies t CLOSURE
+    at true c = subst (λ t. Applies t CLOSURE) (sym (eqb-true t TC c)) is-tc
+    at false c = let f = eqb-false t TC c in let g : t ≡ TCFAST = omega arith in subst (λ t. Applies t CLOSURE) (sym g) is-tcfast
+
+pub hash-here : {t : ℕ} → t ≡ HASH → Applies t COUNT
+hash-here e = subst (λ t. Applies t COUNT) (sym e) is-hash
 
 pub plain-here : (k t : ℕ) → k ≡ t → (k ≡ LPAREN → ⊥) → (k ≡ EX → ⊥) → (k ≡ FA → ⊥) → (k < 35) ⊎ (37 ≤ k) → Plain t
 plain-here k t e a b c d = record {

@@ -2,3 +2,4 @@
 pub mod QuantifierLaws
 pub mod OperatorLaws
 pub mod BracketLaws
+pub mod QuantityLaws

@@ -1,15 +1,23 @@
--- The words over operands, the closing bracket, and the attributes of a quantifier.
+-- The words over operands, the closing bracket, the attributes of a quantifier, and the parts of a quantity.
+use mathlib.Core.Bool.{false}
 use mathlib.Core.List.{List, [], _∷_, map}
 use mathlib.Core.Path.{_≡_}
 use Prim.Native.Nat.{ℕ, zero, suc, _+_, _*_, _-_, _≤_, _<_}
-use lib.ListN.{length, set}
+use lib.ListN.{length, drop, set}
 use lib.Seq.{sets}
-use Rattle.definition.specs.Token.{LPAREN, COMMA, EX, FA, TC, TCFAST}
+use Rattle.definition.proofs.GrammarReads.{Reads, Fails}
+use Rattle.definition.specs.Grammar.{Nonterminal, Tree, Summand, MoreSummands}
+use Rattle.definition.specs.Reader.{phrase}
+use Rattle.definition.specs.Syntax as Syntax
+use Rattle.definition.specs.Syntax.{says}
+use Rattle.definition.specs.Token.{Token, LPAREN, COMMA, EX, FA, TC, TCFAST, HASH}
 use Rattle.lexer.specs.Tokens.{NAME}
 use Rattle.terms.specs.declared.Answer.{Answer}
 use Rattle.terms.specs.declared.Answer.the-variants.{Read, Refused}
-use Rattle.terms.specs.Phrases.{kind-in, Wrote}
-use Rattle.words.specs.Fields.{word, ATTRIBUTE, EXISTS, FOR-ALL}
+use Rattle.terms.specs.Phrases.{kind-in, seen, Holds, Wrote, far, Parsed, IsPrimary}
+use Rattle.terms.specs.Terms.{FirstOfQuantity, NoQuantity}
+use Rattle.words.specs.Fields.{word, ATTRIBUTE, EXISTS, FOR-ALL, CLOSURE, COUNT}
+use Rattle.words.specs.Raw.{flat}
 
 -- room for the word l over an operand that ends before the word m
 pub record Space (M k m s l : ℕ) : Type 0 where
@@ -94,7 +102,41 @@ pub data Quantifier : ℕ → ℕ → Type 0 where
   is-ex : Quantifier EX EXISTS
   is-fa : Quantifier FA FOR-ALL
 
--- TC and TCFAST
-pub data IsClosure : ℕ → Type 0 where
-  is-tc : IsClosure TC
-  is-tcfast : IsClosure TCFAST
+-- what stands before an expression in brackets, and the kind of the word over it
+pub data Applies : ℕ → ℕ → Type 0 where
+  is-tc : Applies TC CLOSURE
+  is-tcfast : Applies TCFAST CLOSURE
+  is-hash : Applies HASH COUNT
+
+-- a summand that is none too many
+abbrev pub IsSummand : List ℕ → ℕ → ℕ → ℕ → List ℕ → List ℕ → Answer → Type 0
+IsSummand = Parsed (Summand false) (λ ts t. says ts t)
+
+-- a closure is a primary, #(e) a summand
+pub record Applied (ws : List ℕ) (p n d kind : ℕ) (A A′ : List ℕ) (r : Answer) : Type 0 where
+  pub closure : kind ≡ CLOSURE → IsPrimary ws p n d A A′ r
+  pub count : kind ≡ COUNT → IsSummand ws p n d A A′ r
+
+-- the tokens from p up to q are the phrases y and z, which say one expression, and its words stand from n up to m
+pub record Series (y z : Nonterminal) (e : List Token → Tree y → Tree z → Syntax.Expression) (ws : List ℕ) (ts : List Token) (p n d : ℕ) (A A′ : List ℕ) (q m : ℕ) : Type 0 where
+  pub first : Tree y
+  pub rest : Tree z
+  pub reads : Reads d (phrase y ∷ phrase z ∷ []) (drop p (seen ws)) (first, (rest, tt)) (drop q (seen ws))
+  pub wrote : Wrote A n (flat (e ts first rest) n) m A′
+
+abbrev pub series : (y z : Nonterminal) → (List Token → Tree y → Tree z → Syntax.Expression) → List ℕ → List Token → ℕ → ℕ → ℕ → List ℕ → List ℕ → Answer → Type 0
+series y z e ws ts p n d A A′ (Read q m) = Series y z e ws ts p n d A A′ q m
+series y z e ws ts p n d A A′ (Refused row q) = Fails d (phrase y ∷ phrase z ∷ []) (drop p (seen ws)) row (drop q (seen ws))
+
+pub record IsSeries (y z : Nonterminal) (e : List Token → Tree y → Tree z → Syntax.Expression) (ws : List ℕ) (p n d : ℕ) (A A′ : List ℕ) (r : Answer) : Type 0 where
+  pub bounds : far ws p n r
+  pub at : (ts : List Token) → Holds ws ts → series y z e ws ts p n d A A′ r
+
+-- a summand, and up to seven more
+abbrev pub IsSum : List ℕ → ℕ → ℕ → ℕ → List ℕ → List ℕ → Answer → Type 0
+IsSum = IsSeries (Summand false) (MoreSummands 7) (λ ts a b. says ts b (says ts a))
+
+-- after + where no further summand may come
+pub data IsNinth (ws : List ℕ) (p : ℕ) : Answer → Type 0 where
+  a-ninth : FirstOfQuantity (kind-in ws p) → IsNinth ws p (Refused 19 p)
+  no-ninth : NoQuantity (kind-in ws p) → IsNinth ws p (Refused 10 p)

@@ -8,15 +8,15 @@ use borrow.Author.Tests.{ne-eqb, lt-ltb, le-ltb, lt-leb, le-leb}
 use lib.ListN.{length, getD}
 use Rattle.definition.specs.Text.{Text, same, member, keep}
 use Rattle.definition.specs.Token.{Token}
-use Rattle.definition.specs.Syntax.{Term, name, string, anything, Expression, atom, truth, falsity, compare, matching, negation, conjunction, disjunction, implication, equivalence, exists, for-all, closure-of, compare-relations}
+use Rattle.definition.specs.Syntax.{Term, name, string, anything, Expression, atom, truth, falsity, compare, matching, negation, conjunction, disjunction, implication, equivalence, exists, for-all, closure-of, compare-relations, literal, count-of, sum-of, ratio-of, compare-figures}
 use Rattle.definition.specs.Names.{term, in-expression, join, attributes, free}
-use Rattle.words.specs.Fields.{word, kind-of, RELATION-NAME, ATTRIBUTE, TERM, ANYTHING, ATOM, TRUTH, FALSITY, ORDER, NEGATION, CONJUNCTION, DISJUNCTION, IMPLICATION, EQUIVALENCE, EXISTS, FOR-ALL, CLOSURE, MATCH, STRING}
+use Rattle.words.specs.Fields.{word, kind-of, RELATION-NAME, ATTRIBUTE, TERM, ANYTHING, ATOM, TRUTH, FALSITY, ORDER, NEGATION, CONJUNCTION, DISJUNCTION, IMPLICATION, EQUIVALENCE, EXISTS, FOR-ALL, CLOSURE, COMPARISON, MATCH, COUNT, LITERAL, SUM, RATIO, FIGURES, STRING}
 use Rattle.words.specs.Raw.{number, sign-number, leaf, leaves, size, over, flat}
 use Rattle.words.specs.Tokens.{OwnName, OwnTerm, OwnTerms, OwnExpression}
 use Rattle.words.proofs.FieldLaws.{kind-word, p-word, q-word}
 use Rattle.words.specs.Standing.{Has}
 use Rattle.words.proofs.Sizes.{length-leaves, size-pos}
-use Rattle.words.proofs.Places.{has-append, Two, has-two, has-one}
+use Rattle.words.proofs.Places.{has-append, has-two, has-one}
 use Rattle.digits.specs.Lists.{add, adds, pack}
 use Rattle.digits.specs.Packed.{joined, without}
 use Rattle.digits.proofs.Listing.{Once, Within, Listed, listed-add, listed-adds, listed-remove}
@@ -120,6 +120,13 @@ module _ (ts : List Token) (few : length ts < 65536) (words fr : List ℕ) (s N 
   operator-free k c p q r lc hc z l h e =
       filled k l h ∙ rw (e, kind-word c p q r (omega arith), op-leaf c (omega arith) hc, le-ltb c 10 (omega arith), le-ltb c 14 lc, ne-eqb c MATCH z) refl
 
+  -- the word of an expression with none free
+  closed-free : (k c p q r : ℕ) → s ≤ k → k < N → 22 ≤ c → c < 43 → (c ≡ MATCH → ⊥) → getD words k 0 ≡ word c p q r → getD fr k 0 ≡ 0
+  unfolding operator
+  closed-free k c p q r l h lc hc z e =
+      operator-free k c p q r (omega arith) hc z l h e
+      ∙ rw (kind-word c p q r (omega arith), ne-eqb c 14 (λ i. omega arith), le-ltb c 19 (omega arith), le-ltb c 21 (omega arith), ne-eqb c 21 (λ i. omega arith)) refl
+
   below-there : (k c : ℕ) → c < k → below (at fr) k c ≡ getD fr c 0
   unfolding below
   below-there k c h = rw (lt-ltb c k h) refl
@@ -148,11 +155,6 @@ module _ (ts : List Token) (few : length ts < 65536) (words fr : List ℕ) (s N 
     quantifier-free lc hc lq =
         operator-free k c p q r (omega arith) (omega arith) (λ i. omega arith) l h e
         ∙ rw (kind-word c p q r (omega arith), p-word c p q r (omega arith) hp, q-word c p q r (omega arith) hp hq, ne-eqb c 14 (λ z. omega arith), le-ltb c 19 lc, lt-ltb c 21 hc, below-there k q lq) refl
-
-    comparison-free : c ≡ 22 → getD fr k 0 ≡ 0
-    unfolding operator
-    comparison-free z =
-        operator-free k c p q r (omega arith) (omega arith) (λ i. omega arith) l h e ∙ rw (kind-word c p q r (omega arith), z) refl
 
   -- what is shown of a tree whose words stand from n on
   pub record Bottom (e : Expression) (n : ℕ) : Type 0 where
@@ -262,17 +264,22 @@ module _ (ts : List Token) (few : length ts < 65536) (words fr : List ℕ) (s N 
         ended = rw (← j) (after-other (n + size a) c (n + size a - 1) 0 0 (omega arith) (omega arith) (op-leaf c (omega arith) hc) w);
       }
 
-  comparison-out : (e a b : Expression) (n g : ℕ) → free vs e ≡ [] → size e ≡ size a + size b + 1 → s ≤ n → n + size e ≤ N → Two words n (over 22 (n + size a) (n + size a + size b) g) a b → Bottom e n
-  comparison-out e a b n g ef es l h o =
-      let k = n + size a + size b in
+  -- an expression with none free, whose own word is at k
+  closed-out : (e : Expression) (n k c p q r : ℕ) → free vs e ≡ [] → n + size e ≡ k + 1 → s ≤ k → k < N → 22 ≤ c → c < 43 → (c ≡ MATCH → ⊥) → getD words k 0 ≡ word c p q r → Bottom e n
+  closed-out e n k c p q r ef es l h lc hc z w =
       let i : n + size e - 1 ≡ k = omega arith in
-      let j : k + 1 ≡ n + size e = omega arith in
       record {
-        value = rw (i, ef) (comparison-free k 22 (n + size a - 1) (k - 1) g (omega arith) (omega arith) (omega arith) (omega arith) (o .root) refl ∙ sym pack-nil);
+        value = rw (i, ef) (closed-free k c p q r l h lc hc z w ∙ sym pack-nil);
         listed = rw ef nil-listed;
         inside = rw ef nil-in;
-        ended = rw (← j) (after-other k 22 (n + size a - 1) (k - 1) g (omega arith) (omega arith) (op-leaf 22 (omega arith) (omega arith)) (o .root));
+        ended = rw es (after-other k c p q r l (omega arith) (op-leaf c (omega arith) hc) w);
       }
+
+  -- over two operands
+  over-out : (e a b : Expression) (n c g : ℕ) → free vs e ≡ [] → size e ≡ size a + size b + 1 → s ≤ n → n + size e ≤ N → 22 ≤ c → c < 43 → (c ≡ MATCH → ⊥) →
+      Has words n (flat a n ++ (flat b (n + size a) ++ (over c (n + size a) (n + size a + size b) g ∷ []))) → Bottom e n
+  over-out e a b n c g ef es l h lc hc z w =
+      closed-out e n (n + size a + size b) c (n + size a - 1) (n + size a + size b - 1) g ef (omega arith) (omega arith) (omega arith) lc hc z (has-two words n _ a b w .root)
 
   two-has : (p q : Term) (n : ℕ) → getD words n 0 ≡ leaf TERM p → getD words (n + 1) 0 ≡ leaf TERM q → Has words n (leaves TERM (p ∷ q ∷ []))
   unfolding Has leaves
@@ -316,4 +323,10 @@ module _ (ts : List Token) (few : length ts < 65536) (words fr : List ℕ) (s N 
       let A = bottom a n o c l (omega arith) cl (t .inner) in
       one-out (closure-of a) a n CLOSURE refl refl l h (omega arith) (omega arith)
       (closure-free (n + size a) CLOSURE (n + size a - 1) 0 0 (omega arith) (omega arith) (omega arith) (omega arith) (t .root) refl (omega (arith, size-pos a))) (t .root) A
-  bottom (compare-relations g a b) n o c l h cl w = comparison-out (compare-relations g a b) a b n (sign-number g) refl refl l h (has-two words n _ a b w)
+  bottom (compare-relations g a b) n o c l h cl w = over-out (compare-relations g a b) a b n COMPARISON (sign-number g) refl refl l h (omega arith) (omega arith) (λ i. omega arith) w
+  bottom (literal t) n o c l h cl w = closed-out (literal t) n n LITERAL (number t) 0 0 refl refl l (omega arith) (omega arith) (omega arith) (λ i. omega arith) (w .0)
+  bottom (count-of a) n o c l h cl w =
+      closed-out (count-of a) n (n + size a) COUNT (n + size a - 1) 0 0 refl (omega arith) (omega arith) (omega arith) (omega arith) (omega arith) (λ i. omega arith) (has-one words n _ a w .root)
+  bottom (sum-of a b) n o c l h cl w = over-out (sum-of a b) a b n SUM 0 refl refl l h (omega arith) (omega arith) (λ i. omega arith) w
+  bottom (ratio-of a b) n o c l h cl w = over-out (ratio-of a b) a b n RATIO 0 refl refl l h (omega arith) (omega arith) (λ i. omega arith) w
+  bottom (compare-figures g a b) n o c l h cl w = over-out (compare-figures g a b) a b n FIGURES (sign-number g) refl refl l h (omega arith) (omega arith) (λ i. omega arith) w

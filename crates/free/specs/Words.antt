@@ -25,7 +25,7 @@ unfoldable pub terms : (ℕ → ℕ) → (ℕ → ℕ) → ℕ → ℕ → ℕ
 terms R F s k = cond (leb k s) 0 (cond (is-leaf (kind-of (R (k - 1)))) (F (k - 1)) 0)
 
 module _ (R D F : ℕ → ℕ) where
-  -- an operator at k: a quantifier takes its attribute away, a relation comparison has none free
+  -- an operator at k: a quantifier takes its attribute away; a relation comparison, a quantity and a comparison of quantities have none free
   unfoldable pub operator : ℕ → ℕ → ℕ
   operator k w =
       let c = kind-of w in

@@ -9,8 +9,8 @@ use lib.Dec.{eqb, ltb}
 use lib.ListN.{length, getD}
 use Rattle.definition.specs.Text.{if_then_else_, Text}
 use Rattle.definition.specs.Token as Token
-use Rattle.definition.specs.Token.{Terminal, Token, token-at, AT}
-use Rattle.lexer.specs.Tokens.{FIRST-SIGN, NAME, sign-of, quote-of, terminal-of, token-of, tokens-of}
+use Rattle.definition.specs.Token.{Terminal, Token, token-at}
+use Rattle.lexer.specs.Tokens.{FIRST-SIGN, NAME, NUMBER, LARGE-NUMBER, sign-of, quote-of, terminal-of, token-of, tokens-of}
 use Rattle.intern.specs.Entries.{QUOTED, text-at, Stand}
 
 length-tokens : (query : Text) (i : ℕ) (ws : List ℕ) → length (tokens-of query i ws) ≡ length ws
@@ -38,16 +38,20 @@ no-name i j w e q =
 -- a string's token is quoted: every other kind gives another terminal
 a-string : (i j w : ℕ) → terminal-of (w % 64) i ≡ Token.string j → w % 64 ≡ QUOTED
 unfolding terminal-of
-a-string i j w e = go (ltb (w % 64) FIRST-SIGN) (eqb (w % 64) NAME) (eqb (w % 64) QUOTED) (eqb (w % 64) AT) refl e
+a-string i j w e =
+    go (ltb (w % 64) FIRST-SIGN) (eqb (w % 64) NAME) (eqb (w % 64) QUOTED) (eqb (w % 64) NUMBER) (eqb (w % 64) LARGE-NUMBER) (ltb QUOTED (w % 64)) refl e
   where
-    go : (a b c d : Bool) → eqb (w % 64) QUOTED ≡ c
-        → (if a then (Token.key (w % 64)) else if b then (Token.name i) else if c then (Token.string i) else if d then (Token.key (w % 64)) else (Token.sign (sign-of (w % 64)))) ≡ Token.string j
+    go : (a b c d f g : Bool) → eqb (w % 64) QUOTED ≡ c
+        → (if a then (Token.key (w % 64)) else if b then (Token.name i) else if c then (Token.string i) else if d then (Token.number false i)
+        else if f then (Token.number true i) else if g then (Token.key (w % 64)) else (Token.sign (sign-of (w % 64)))) ≡ Token.string j
         → w % 64 ≡ QUOTED
-    go true b c d h e = let z : _≡_ {A = ℕ} 0 1 = cc in absurd (omega arith)
-    go false true c d h e = let z : _≡_ {A = ℕ} 0 1 = cc in absurd (omega arith)
-    go false false true d h e = eqb-true (w % 64) QUOTED h
-    go false false false true h e = let z : _≡_ {A = ℕ} 0 1 = cc in absurd (omega arith)
-    go false false false false h e = let z : _≡_ {A = ℕ} 0 1 = cc in absurd (omega arith)
+    go true b c d f g h e = let z : _≡_ {A = ℕ} 0 1 = cc in absurd (omega arith)
+    go false true c d f g h e = let z : _≡_ {A = ℕ} 0 1 = cc in absurd (omega arith)
+    go false false true d f g h e = eqb-true (w % 64) QUOTED h
+    go false false false true f g h e = let z : _≡_ {A = ℕ} 0 1 = cc in absurd (omega arith)
+    go false false false false true g h e = let z : _≡_ {A = ℕ} 0 1 = cc in absurd (omega arith)
+    go false false false false false true h e = let z : _≡_ {A = ℕ} 0 1 = cc in absurd (omega arith)
+    go false false false false false false h e = let z : _≡_ {A = ℕ} 0 1 = cc in absurd (omega arith)
 
 -- the tokens of a query stand in the lexer's words
 pub lexed-stand : (query : Text) (ws : List ℕ) → Stand query ws (tokens-of query 0 ws)

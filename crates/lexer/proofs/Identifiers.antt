@@ -5,12 +5,11 @@ use Prim.Native.Nat.{ℕ, _+_, _≤_, _<_}
 use native.Mathlib.Omega.{arith}
 use lib.Dec.{lit<, lit≤}
 use lib.ListN.{length, take}
-use lib.Seq.{length-take-le}
 use borrow.Author.Tests.{lt-ltb, le-ltb, ne-eqb}
 use Rattle.definition.specs.Text.{Text, ascii, span, same, is-part, reserved}
 use Rattle.definition.specs.Limits.{WORD-BYTES}
 use Rattle.definition.specs.Token.{Terminal, name, key, token, neither, word, word-terminal, FIRST-WORD, UNDERSCORE}
-use Rattle.texts.proofs.RunLaws.{span-within}
+use Rattle.texts.proofs.RunLaws.{run-length}
 use Rattle.lexer.specs.declared.Segment.the-variants.{Lexeme}
 use Rattle.lexer.specs.Tokens.{NAME, STRING, FIRST-SIGN, terminal-of, quote-of}
 use Rattle.lexer.specs.Segments.{piece-of, Packs}
@@ -36,7 +35,7 @@ any-packs = record { kind = lit< tt; size = lit< tt; text = lit≤ tt }
 
 module _ (xs : Text) (n : ℕ) (e : n ≡ span is-part xs) where
   size : length (take (span is-part xs) xs) ≡ n
-  size = length-take-le (span is-part xs) xs (span-within is-part xs) ∙ sym e
+  size = run-length is-part xs ∙ sym e
 
   pub word-long : WORD-BYTES < n → neither ≡ word (take (span is-part xs) xs)
   unfolding word

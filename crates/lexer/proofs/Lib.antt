@@ -5,6 +5,7 @@ pub mod Comments
 pub mod Strings
 pub mod Pieces
 pub mod Identifiers
+pub mod Numerals
 pub mod Packing
 pub mod Reading
 pub mod Steps

@@ -79,28 +79,31 @@ module _ (x y z : ℕ) where
   Other [] = Unit {0}
   Other (k ∷ ks) = Other ks × (x ≡ k → ⊥)
 
-  pub no-mark : Other (64 ∷ 62 ∷ 60 ∷ 61 ∷ 45 ∷ 33 ∷ 124 ∷ 38 ∷ 58 ∷ 59 ∷ 44 ∷ 93 ∷ 91 ∷ 125 ∷ 123 ∷ 41 ∷ 40 ∷ []) → Marked x y z Neither
+  pub no-mark : Other (47 ∷ 43 ∷ 35 ∷ 64 ∷ 62 ∷ 60 ∷ 61 ∷ 45 ∷ 33 ∷ 124 ∷ 38 ∷ 58 ∷ 59 ∷ 44 ∷ 93 ∷ 91 ∷ 125 ∷ 123 ∷ 41 ∷ 40 ∷ []) → Marked x y z Neither
   unfolding first-mark marks starts
   no-mark h = record {
     small = tt;
     piece = λ xs.
         simp (
-          ne-eqb 64 x (λ e. h .1 (sym e)),
-          ne-eqb 62 x (λ e. h .0 .1 (sym e)),
-          ne-eqb 60 x (λ e. h .0 .0 .1 (sym e)),
-          ne-eqb 61 x (λ e. h .0 .0 .0 .1 (sym e)),
-          ne-eqb 45 x (λ e. h .0 .0 .0 .0 .1 (sym e)),
-          ne-eqb 33 x (λ e. h .0 .0 .0 .0 .0 .1 (sym e)),
-          ne-eqb 124 x (λ e. h .0 .0 .0 .0 .0 .0 .1 (sym e)),
-          ne-eqb 38 x (λ e. h .0 .0 .0 .0 .0 .0 .0 .1 (sym e)),
-          ne-eqb 58 x (λ e. h .0 .0 .0 .0 .0 .0 .0 .0 .1 (sym e)),
-          ne-eqb 59 x (λ e. h .0 .0 .0 .0 .0 .0 .0 .0 .0 .1 (sym e)),
-          ne-eqb 44 x (λ e. h .0 .0 .0 .0 .0 .0 .0 .0 .0 .0 .1 (sym e)),
-          ne-eqb 93 x (λ e. h .0 .0 .0 .0 .0 .0 .0 .0 .0 .0 .0 .1 (sym e)),
-          ne-eqb 91 x (λ e. h .0 .0 .0 .0 .0 .0 .0 .0 .0 .0 .0 .0 .1 (sym e)),
-          ne-eqb 125 x (λ e. h .0 .0 .0 .0 .0 .0 .0 .0 .0 .0 .0 .0 .0 .1 (sym e)),
-          ne-eqb 123 x (λ e. h .0 .0 .0 .0 .0 .0 .0 .0 .0 .0 .0 .0 .0 .0 .1 (sym e)),
-          ne-eqb 41 x (λ e. h .0 .0 .0 .0 .0 .0 .0 .0 .0 .0 .0 .0 .0 .0 .0 .1 (sym e)),
-          ne-eqb 40 x (λ e. h .0 .0 .0 .0 .0 .0 .0 .0 .0 .0 .0 .0 .0 .0 .0 .0 .1 (sym e)),
+          ne-eqb 47 x (λ e. h .1 (sym e)),
+          ne-eqb 43 x (λ e. h .0 .1 (sym e)),
+          ne-eqb 35 x (λ e. h .0 .0 .1 (sym e)),
+          ne-eqb 64 x (λ e. h .0 .0 .0 .1 (sym e)),
+          ne-eqb 62 x (λ e. h .0 .0 .0 .0 .1 (sym e)),
+          ne-eqb 60 x (λ e. h .0 .0 .0 .0 .0 .1 (sym e)),
+          ne-eqb 61 x (λ e. h .0 .0 .0 .0 .0 .0 .1 (sym e)),
+          ne-eqb 45 x (λ e. h .0 .0 .0 .0 .0 .0 .0 .1 (sym e)),
+          ne-eqb 33 x (λ e. h .0 .0 .0 .0 .0 .0 .0 .0 .1 (sym e)),
+          ne-eqb 124 x (λ e. h .0 .0 .0 .0 .0 .0 .0 .0 .0 .1 (sym e)),
+          ne-eqb 38 x (λ e. h .0 .0 .0 .0 .0 .0 .0 .0 .0 .0 .1 (sym e)),
+          ne-eqb 58 x (λ e. h .0 .0 .0 .0 .0 .0 .0 .0 .0 .0 .0 .1 (sym e)),
+          ne-eqb 59 x (λ e. h .0 .0 .0 .0 .0 .0 .0 .0 .0 .0 .0 .0 .1 (sym e)),
+          ne-eqb 44 x (λ e. h .0 .0 .0 .0 .0 .0 .0 .0 .0 .0 .0 .0 .0 .1 (sym e)),
+          ne-eqb 93 x (λ e. h .0 .0 .0 .0 .0 .0 .0 .0 .0 .0 .0 .0 .0 .0 .1 (sym e)),
+          ne-eqb 91 x (λ e. h .0 .0 .0 .0 .0 .0 .0 .0 .0 .0 .0 .0 .0 .0 .0 .1 (sym e)),
+          ne-eqb 125 x (λ e. h .0 .0 .0 .0 .0 .0 .0 .0 .0 .0 .0 .0 .0 .0 .0 .0 .1 (sym e)),
+          ne-eqb 123 x (λ e. h .0 .0 .0 .0 .0 .0 .0 .0 .0 .0 .0 .0 .0 .0 .0 .0 .0 .1 (sym e)),
+          ne-eqb 41 x (λ e. h .0 .0 .0 .0 .0 .0 .0 .0 .0 .0 .0 .0 .0 .0 .0 .0 .0 .0 .1 (sym e)),
+          ne-eqb 40 x (λ e. h .0 .0 .0 .0 .0 .0 .0 .0 .0 .0 .0 .0 .0 .0 .0 .0 .0 .0 .0 .1 (sym e)),
         );
   }

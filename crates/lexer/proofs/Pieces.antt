@@ -11,8 +11,8 @@ use lib.Dec.{eqb}
 use lib.ListN.{length, take, drop, getD, List·getD-eq-default}
 use lib.Seq.{drop-drop, drop-cons, getD-drop}
 use borrow.Author.Tests.{eq-eqb, ne-eqb}
-use Rattle.definition.specs.Text.{Text, span, starts, is-letter, is-part, is-blank}
-use Rattle.definition.specs.Token.{gap, neither, first-mark, marks, word, quoted, comment, piece}
+use Rattle.definition.specs.Text.{Text, span, starts, is-letter, is-digit, is-part, is-blank}
+use Rattle.definition.specs.Token.{gap, first-mark, marks, word, numeral, quoted, comment, piece}
 use Rattle.lexer.specs.Segments.{first-piece}
 use Rattle.lexer.proofs.Strings.{starts-one}
 use Rattle.lexer.proofs.Marks.{three-bytes}
@@ -29,6 +29,14 @@ module _ (text : Text) (at : ℕ) (h : at < length text) where
   second : getD (drop (at + 1) text) 0 0 ≡ getD text (at + 1) 0
   second = getD-drop (at + 1) text 0 0 ∙ rw (add-zero (at + 1))
 
+  -- a mark is read off the first three bytes
+  pub mark-bytes : first-mark marks (getD text at 0 ∷ getD text (at + 1) 0 ∷ getD text (at + 2) 0 ∷ []) ≡ first-mark marks (drop at text)
+  mark-bytes =
+      let two : at + 1 + 1 ≡ at + 2 = omega arith in
+      let third : getD (drop (at + 1) text) 1 0 ≡ getD text (at + 2) 0 = getD-drop (at + 1) text 1 0 ∙ rw two in
+      let all : drop at text ≡ getD text at 0 ∷ drop (at + 1) text = rw (add-one at, drop-cons text at 0 h) in
+      sym (rw all (three-bytes (getD text at 0) (drop (at + 1) text) ∙ rw (second, third)))
+
   pub separator : (is-blank (getD text at 0) || eqb (getD text at 0) 10) ≡ true → gap 1 ≡ first-piece (drop at text)
   unfolding piece
   separator e = sym (at-first ∙ rw e)
@@ -40,22 +48,23 @@ module _ (text : Text) (at : ℕ) (h : at < length text) where
         ∙ rw (black, no-slash (getD text at 0) (47 ∷ []) (drop (at + 1) text) whole, no-slash (getD text at 0) (42 ∷ []) (drop (at + 1) text) whole, e)
         (rw (add-one at, drop-cons text at 0 h)))
 
-    pub quote : is-letter (getD text at 0) ≡ false → getD text at 0 ≡ 34 → quoted (drop (at + 1) text) ≡ first-piece (drop at text)
-    unfolding piece
-    quote e q = sym (at-first
-        ∙ rw (black, no-slash (getD text at 0) (47 ∷ []) (drop (at + 1) text) whole, no-slash (getD text at 0) (42 ∷ []) (drop (at + 1) text) whole, e, eq-eqb (getD text at 0) 34 q))
+    module _ (other : is-letter (getD text at 0) ≡ false) where
+      pub digit : is-digit (getD text at 0) ≡ true → numeral (take (span is-digit (drop at text)) (drop at text)) ≡ first-piece (drop at text)
+      unfolding piece
+      digit e = sym (at-first
+          ∙ rw (black, no-slash (getD text at 0) (47 ∷ []) (drop (at + 1) text) whole, no-slash (getD text at 0) (42 ∷ []) (drop (at + 1) text) whole, other, e)
+          (rw (add-one at, drop-cons text at 0 h)))
 
-    pub mark : is-letter (getD text at 0) ≡ false → (getD text at 0 ≡ 34 → ⊥)
-        → first-mark marks (getD text at 0 ∷ getD text (at + 1) 0 ∷ getD text (at + 2) 0 ∷ []) ≡ first-piece (drop at text)
-    unfolding piece
-    mark e q =
-        let third : getD (drop (at + 1) text) 1 0 ≡ getD text (at + 2) 0 = getD-drop (at + 1) text 1 0 ∙ rw (two) in
-        sym (at-first
-        ∙ rw (black, no-slash (getD text at 0) (47 ∷ []) (drop (at + 1) text) whole, no-slash (getD text at 0) (42 ∷ []) (drop (at + 1) text) whole, e, ne-eqb (getD text at 0) 34 q)
-        (three-bytes (getD text at 0) (drop (at + 1) text) ∙ rw (second, third)))
-      where
-        two : at + 1 + 1 ≡ at + 2
-        two = omega arith
+      pub quote : is-digit (getD text at 0) ≡ false → getD text at 0 ≡ 34 → quoted (drop (at + 1) text) ≡ first-piece (drop at text)
+      unfolding piece
+      quote e q = sym (at-first
+          ∙ rw (black, no-slash (getD text at 0) (47 ∷ []) (drop (at + 1) text) whole, no-slash (getD text at 0) (42 ∷ []) (drop (at + 1) text) whole, other, e, eq-eqb (getD text at 0) 34 q))
+
+      pub mark : is-digit (getD text at 0) ≡ false → (getD text at 0 ≡ 34 → ⊥) → first-mark marks (drop at text) ≡ first-piece (drop at text)
+      unfolding piece
+      mark e q = sym (at-first
+          ∙ rw (black, no-slash (getD text at 0) (47 ∷ []) (drop (at + 1) text) whole, no-slash (getD text at 0) (42 ∷ []) (drop (at + 1) text) whole, other, e, ne-eqb (getD text at 0) 34 q)
+          (rw (add-one at, drop-cons text at 0 h)))
 
   module _ (slash : getD text at 0 ≡ 47) where
     slash-text : drop at text ≡ 47 ∷ drop (at + 1) text
@@ -74,8 +83,8 @@ module _ (text : Text) (at : ℕ) (h : at < length text) where
         let two : at + 1 + 1 ≡ at + 2 = omega arith in
         rw (slash-text, next-is 47 refl, next-is 42 refl, q, drop-drop, two)
 
-    pub no-comment : (getD text (at + 1) 0 ≡ 47 → ⊥) → (getD text (at + 1) 0 ≡ 42 → ⊥) → neither ≡ first-piece (drop at text)
-    unfolding piece is-blank is-letter first-mark marks starts
+    pub no-comment : (getD text (at + 1) 0 ≡ 47 → ⊥) → (getD text (at + 1) 0 ≡ 42 → ⊥) → first-mark marks (drop at text) ≡ first-piece (drop at text)
+    unfolding piece is-blank is-letter is-digit starts
     no-comment p q =
         rw (slash-text, next-is 47 refl, next-is 42 refl, ne-eqb 47 (getD text (at + 1) 0) (λ e. p (sym e)), ne-eqb 42 (getD text (at + 1) 0) (λ e. q (sym e)))
 

@@ -7,9 +7,9 @@ use native.Mathlib.Omega.{arith}
 use lib.Dec.{T, eqb, ltb, leb, ltb→lt}
 use borrow.Author.Tests.{eqb-true}
 use lib.ListN.{length, take, drop, length-take, length-drop}
-use Rattle.definition.specs.Text.{Text, ascii, span, all-of, same, starts, is-letter, is-part, is-blank}
+use Rattle.definition.specs.Text.{Text, ascii, span, all-of, same, starts, is-letter, is-digit, is-part, is-blank}
 use Rattle.definition.specs.Limits.{WORD-BYTES}
-use Rattle.definition.specs.Token.{Terminal, Mark, marks, Piece, gap, token, neither, first-mark, word, quoted, comment, piece}
+use Rattle.definition.specs.Token.{Terminal, Mark, marks, Piece, gap, token, neither, first-mark, word, numeral, quoted, comment, piece}
 use Rattle.texts.proofs.RunLaws.{span-within}
 use Rattle.definition.proofs.BoolLaws.{and-left, and-right}
 
@@ -72,6 +72,10 @@ word-sized n w a b =
     sized-if (ltb WORD-BYTES (length w)) (λ e. sized-neither)
     (λ e. sized-if (same w (ascii "_")) (λ f. sized-token (omega arith) (omega arith)) (λ f. sized-token a b))
 
+numeral-sized : (n : ℕ) (w : Text) → 0 < length w → length w ≤ n → Sized n (numeral w)
+unfolding numeral
+numeral-sized n w a b = sized-if (ltb WORD-BYTES (length w)) (λ e. sized-neither) (λ e. sized-token a b)
+
 quoted-sized : (xs : Text) → Sized (suc (length xs)) (quoted xs)
 unfolding quoted
 quoted-sized xs =
@@ -106,4 +110,6 @@ piece-sized x xs =
     (λ e1. sized-if (starts (ascii "/*") (x ∷ xs)) (λ e. let h = starts-length (ascii "/*") (x ∷ xs) e in sized-more (omega (arith, length-drop 1 xs)) (comment-sized 2 (drop 1 xs)))
     (λ e2. sized-if (is-letter x) (λ e. let h = length-take (span is-part (x ∷ xs)) (x ∷ xs) in let k = span-some is-part x xs (letter-part x e) in
     word-sized (suc (length xs)) (take (span is-part (x ∷ xs)) (x ∷ xs)) (omega arith) (omega arith))
-    (λ e3. sized-if (eqb x 34) (λ e. quoted-sized xs) (λ e. mark-sized marks (x ∷ xs) all-spelled)))))
+    (λ e3. sized-if (is-digit x) (λ e. let h = length-take (span is-digit (x ∷ xs)) (x ∷ xs) in let k = span-some is-digit x xs e in
+    numeral-sized (suc (length xs)) (take (span is-digit (x ∷ xs)) (x ∷ xs)) (omega arith) (omega arith))
+    (λ e4. sized-if (eqb x 34) (λ e. quoted-sized xs) (λ e. mark-sized marks (x ∷ xs) all-spelled))))))

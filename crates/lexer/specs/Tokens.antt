@@ -1,12 +1,13 @@
 -- A token as one word of 64 bits: its kind, the length of its text and the place of its first byte.
+use mathlib.Core.Bool.{true, false}
 use mathlib.Core.List.{List, [], _∷_}
 use Prim.Native.Nat.{ℕ, suc, _+_, _/_, _%_, _≤_, _<_}
 use lib.Dec.{eqb, ltb}
 use lib.ListN.{length, take, drop, getD}
 use Rattle.definition.specs.Text.{Text, if_then_else_}
-use Rattle.definition.specs.Token.{Sign, equal, unequal, less, at-most, greater, at-least, Terminal, name, string, sign, key, AT, Token}
+use Rattle.definition.specs.Token.{Sign, equal, unequal, less, at-most, greater, at-least, Terminal, name, string, number, sign, key, Token}
 
--- "identifiers; reserved words; strings in double quotes ..": the kinds 0 to 40 and 49 are the definition's keys; 41 to 46 are the six signs, then come an identifier and a string
+-- "identifiers; reserved words; strings in double quotes ..": the kinds 0 to 40 and 49 to 52 are the definition's keys; 41 to 46 are the six signs, then come an identifier and a string; a run of digits is of one kind up to 999,999 and of another above
 abbrev pub FIRST-SIGN : ℕ
 FIRST-SIGN = 41
 
@@ -15,6 +16,12 @@ NAME = 47
 
 abbrev pub STRING : ℕ
 STRING = 48
+
+abbrev pub NUMBER : ℕ
+NUMBER = 53
+
+abbrev pub LARGE-NUMBER : ℕ
+LARGE-NUMBER = 54
 
 unfoldable pub sign-of : ℕ → Sign
 sign-of k =
@@ -31,7 +38,9 @@ terminal-of k i =
     if ltb k FIRST-SIGN then (key k)
     else if eqb k NAME then (name i)
     else if eqb k STRING then (string i)
-    else if eqb k AT then (key k)
+    else if eqb k NUMBER then (number false i)
+    else if eqb k LARGE-NUMBER then (number true i)
+    else if ltb STRING k then (key k)
     else (sign (sign-of k))
 
 -- the parts of a word

@@ -3,17 +3,19 @@ use definition::Refusal;
 use texts::Class;
 use texts::Word;
 use texts::is_letter;
+use texts::of_class;
 use texts::reserved_word;
 use texts::run_end;
 use texts::same;
+use texts::value;
 ghost use lib.Dec.{eqb};
 ghost use lib.ListN.{length, take, drop, getD, set};
 ghost use mathlib.Core.Bool.{cond, _||_};
 ghost use mathlib.Core.List.{[], _∷_};
 ghost use mathlib.Core.Path.{_≡_};
 ghost use Prim.Native.Nat.{_<_, _≤_, _+_, _*_, min};
-ghost use Rattle.definition.specs.Text.{Text, ascii, span, starts, is-letter, is-part, is-blank, is-legal};
-ghost use Rattle.definition.specs.Token.{first-mark, marks, comment, quoted, word};
+ghost use Rattle.definition.specs.Text.{Text, ascii, span, starts, is-letter, is-digit, is-part, is-blank, is-legal};
+ghost use Rattle.definition.specs.Token.{first-mark, marks, comment, quoted, word, numeral};
 ghost use Rattle.lexer.specs.Answers.{answer, count-of, query-tokens};
 ghost use Rattle.lexer.specs.Scans.{Scanned};
 ghost use Rattle.lexer.specs.Segments.{piece-of, first-piece, Marked, Small};
@@ -70,8 +72,19 @@ pub const NAME: u64 = 47;
 
 pub const STRING: u64 = 48;
 
-// The key of "@".
+// The keys of @ # + /
 pub const AT: u64 = 49;
+
+pub const HASH: u64 = 50;
+
+pub const PLUS: u64 = 51;
+
+pub const SLASH: u64 = 52;
+
+// A run of digits, up to 999,999 and above.
+pub const NUMBER: u64 = 53;
+
+pub const LARGE_NUMBER: u64 = 54;
 
 // What begins at a place of the text: bytes that separate; a token's kind, the length of its text and its own length; or neither.
 enum Segment {
@@ -143,8 +156,20 @@ fn mark_of(x: u8, y: u8, z: u8) -> Segment
         b'<' => both_ways(y, z, longer(y, b'=', AT_MOST, Segment::Lexeme(LESS, 0, 1))),
         b'>' => longer(y, b'=', AT_LEAST, Segment::Lexeme(GREATER, 0, 1)),
         b'@' => Segment::Lexeme(AT, 0, 1),
+        b'#' => Segment::Lexeme(HASH, 0, 1),
+        b'+' => Segment::Lexeme(PLUS, 0, 1),
+        b'/' => Segment::Lexeme(SLASH, 0, 1),
         _ => Segment::Neither,
     }
+}
+
+// The longest mark at the place at.
+fn mark_at(text: &[u8], at: usize) -> Segment
+    requires { ⌜ at < length (now text) ⌝ }
+    ensures value { λ r. ⌜ piece-of (drop at (now (text .entry))) r ≡ first-mark marks (drop at (now (text .entry))) ⌝ }
+    ensures small { λ r. ⌜ Small r ⌝ }
+{
+    mark_of(text[at], byte_at(text, at + 1), byte_at(text, at + 2))
 }
 
 // Whether x and y close a comment.
@@ -213,7 +238,24 @@ fn word_at(text: &[u8], at: usize) -> Segment
     }
 }
 
-// What begins with a slash at the place at: one of the two comment forms, or nothing.
+// The run of digits at the place at: 1 to 32 bytes.
+fn digits_at(text: &[u8], at: usize) -> Segment
+    requires { ⌜ at < length (now text) ⌝ }
+    ensures value { λ r. ⌜ piece-of (drop at (now (text .entry))) r ≡ numeral (take (span is-digit (drop at (now (text .entry)))) (drop at (now (text .entry)))) ⌝ }
+    ensures small { λ r. ⌜ Small r ⌝ }
+{
+    let end = run_end(text, at, Class::Digit);
+    let n = end - at;
+    if 32 < n {
+        return Segment::Neither;
+    }
+    if value(&text[at..end]) < 1_000_000 {
+        return Segment::Lexeme(NUMBER, n, n);
+    }
+    Segment::Lexeme(LARGE_NUMBER, n, n)
+}
+
+// What begins with a slash at the place at: one of the two comment forms, or the mark.
 fn slash_at(text: &[u8], at: usize) -> Segment
     requires { ⌜ (at < length (now text)) × (getD (now text) at 0 ≡ 47) ⌝ }
     ensures value { λ r. ⌜ piece-of (drop at (now (text .entry))) r ≡ first-piece (drop at (now (text .entry))) ⌝ }
@@ -226,7 +268,7 @@ fn slash_at(text: &[u8], at: usize) -> Segment
     if next == b'/' {
         return Segment::Gap(run_end(text, at, Class::NoEnd) - at);
     }
-    Segment::Neither
+    mark_at(text, at)
 }
 
 // Whether x is one of the blanks 9, 10 and 32.
@@ -258,10 +300,13 @@ fn segment_at(text: &[u8], at: usize) -> Segment
     if is_letter(x) {
         return word_at(text, at);
     }
+    if of_class(x, Class::Digit) {
+        return digits_at(text, at);
+    }
     if x == b'"' {
         return string_at(text, at);
     }
-    mark_of(x, byte_at(text, at + 1), byte_at(text, at + 2))
+    mark_at(text, at)
 }
 
 // The kind of a word's token.

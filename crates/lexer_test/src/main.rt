@@ -4,9 +4,9 @@ use lexer::Lexed;
 use lexer::lex;
 use libc::STDOUT_FILENO;
 use lines::put;
+use lines::put_decimal;
 use listing::Item;
 use listing::put_items;
-use page::put_digits;
 use page::put_refusal;
 use parts::part;
 
@@ -20,7 +20,7 @@ fn write_line(line: &mut [u8], n: usize) {
 fn put_tokens(line: &mut [u8], l: Lexed, words: &[u64]) -> usize {
     match l {
         Lexed::Tokens(n) => {
-            let p = put_digits(line, 0, n as u64, 10);
+            let p = put_decimal(line, 0, n as u64, true);
             put_items(line, p, Item::Token, words, n)
         }
         Lexed::Refused(q) => put_refusal(line, q),
@@ -53,6 +53,9 @@ fn tokens() {
     show(b"\"\" \"a b\t\"\"//\"");
     show(b"(){}[],;:=&|!-><->=!=<<=>>=");
     show(b"@\"^C\"(x)");
+    show(b"#(On(x,_)) + 12 / 7");
+    show(b"0 007 999999 1000000 00999999");
+    show(b"1a 2_ a3");
 }
 
 // "The longest token wins."
@@ -71,6 +74,9 @@ fn gaps() {
     show(b"a/*b*/c/**/d/***/e");
     show(b"/*/");
     show(b"a/*/ */b");
+    show(b"6//2");
+    show(b"6/*2*//3");
+    show(b"6/ /2");
     show(b"a/b");
     show(b"/");
     show(b"/* *");
@@ -80,12 +86,12 @@ fn gaps() {
 fn refusals() {
     show(b"a\"b");
     show(b"a \"b\nc\"");
-    show(b"a 1");
+    show(b"a %");
     show(b"a\rb");
     show(b"a /* \x01 */ b");
-    show(b"\"\x7f\" 1");
-    show(b"// \x80\n1");
-    show(b"1 \x01");
+    show(b"\"\x7f\" %");
+    show(b"// \x80\n%");
+    show(b"% \x01");
     show(b"a \"\x01");
 }
 
@@ -95,6 +101,9 @@ fn lengths() {
     show(b"a23456789012345678901234567890123");
     show(b"\"12345678901234567890123456789012\"");
     show(b"\"123456789012345678901234567890123\"");
+    show(b"00000000000000000000000000000001");
+    show(b"12345678901234567890123456789012");
+    show(b"123456789012345678901234567890123");
     show(b"b //a2345678901234567890123456789012345");
 }
 

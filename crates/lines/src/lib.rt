@@ -1,10 +1,11 @@
-// The line of a tuple put to a buffer, or only counted. A place past the buffer's end counts as the one just past it, so no count overflows.
+// Numbers and the line of a tuple put to a buffer, or only counted. A place past the buffer's end counts as the one just past it, so no count overflows.
 ghost use mathlib.Core.Path.{_≡_};
 ghost use mathlib.Core.List.{[], _∷_};
 ghost use Prim.Native.Nat.{ℕ, _+_, _-_, _≤_, min, max};
 ghost use lib.ListN.{length, getD, take, drop};
 ghost use lib.Seq.{sets};
 ghost use Rattle.definition.specs.Text.{Text, gather};
+ghost use Rattle.definition.specs.Decimals.{digits, decimal};
 ghost use Rattle.lines.specs.Lines.{texts, element-at, shown-at, shown-most, after, line-of};
 ghost use Rattle.lines.specs.Put.{Put};
 use parts::text_of;
@@ -61,6 +62,29 @@ pub fn put_text(out: &mut [u8], at: usize, s: &[u8], write: bool) -> usize
         return end;
     }
     end
+}
+
+// Puts a number of at most k digits.
+fn put_digits(out: &mut [u8], at: usize, n: u64, k: usize, write: bool) -> usize
+    requires { ⌜ at ≤ length (now out) + 1 ⌝ }
+    ensures { λ r. ⌜ Put write (now (out .entry)) at (digits k n) r (now (out .exit)) ⌝ }
+{
+    if k == 0 {
+        return at;
+    }
+    if n < 10 {
+        return put(out, at, 48 + n as u8, write);
+    }
+    let p = put_digits(out, at, n / 10, k - 1, write);
+    put(out, p, 48 + (n % 10) as u8, write)
+}
+
+// Puts a number in decimal.
+pub fn put_decimal(out: &mut [u8], at: usize, n: u64, write: bool) -> usize
+    requires { ⌜ at ≤ length (now out) + 1 ⌝ }
+    ensures { λ r. ⌜ Put write (now (out .entry)) at (decimal n) r (now (out .exit)) ⌝ }
+{
+    put_digits(out, at, n, 10, write)
 }
 
 fn place_at(places: &[usize], a: usize) -> usize

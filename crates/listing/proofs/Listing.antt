@@ -9,7 +9,7 @@ use lib.Dec.{eqb}
 use lib.ListN.{length, getD, take}
 use lib.Seq.{take-suc}
 use Rattle.definition.specs.Text.{Text, gather}
-use Rattle.definition.specs.Page.{decimal}
+use Rattle.definition.specs.Decimals.{decimal}
 use Rattle.definition.proofs.ListLaws.{gather-append, gather-one}
 use Rattle.lexer.specs.Tokens as Tokens
 use Rattle.words.specs.Fields as Fields

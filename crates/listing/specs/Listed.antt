@@ -3,7 +3,7 @@ use Prim.Native.Nat.{ℕ}
 use mathlib.Core.List.{[], _∷_, _++_}
 use lib.Dec.{eqb}
 use Rattle.definition.specs.Text.{if_then_else_, Text}
-use Rattle.definition.specs.Page.{decimal}
+use Rattle.definition.specs.Decimals.{decimal}
 use Rattle.lexer.specs.Tokens as Tokens
 use Rattle.words.specs.Fields as Fields
 use Rattle.listing.specs.declared.Item.{Item}

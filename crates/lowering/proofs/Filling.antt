@@ -10,7 +10,7 @@ use lib.ListN.{length, getD, set, length-set}
 use lib.Seq.{getD-set-same, getD-set-other}
 use Rattle.digits.specs.Packed.{count}
 use Rattle.slots.specs.Slots.{one-closure}
-use Rattle.lowering.specs.Lowering.{Cells, Halves, may-stand, all-stand, closures-before, lower-word, lower-at, Filled}
+use Rattle.lowering.specs.Lowering.{Cells, TokenValues, may-stand, all-stand, closures-before, lower-word, lower-at, Filled}
 
 pub count-small : (a : ℕ) → count a < 256
 unfolding count
@@ -94,6 +94,6 @@ pub filled-end : (f : ℕ → ℕ) (lo i hi : ℕ) (old xs : List ℕ) → i ≡
 filled-end f lo i hi old xs e F = rw (← e) F
 
 -- the word at a place of a part, where the closures before it are counted
-pub part-word : (R C L F : Cells) (H : Halves) (u lo c k v : ℕ) → v ≡ lower-word R C L F H u c k → c ≡ closures-before R lo k → v ≡ lower-at R C L F H u lo k
+pub part-word : (R C L F : Cells) (H : TokenValues) (u lo c k v : ℕ) → v ≡ lower-word R C L F H u c k → c ≡ closures-before R lo k → v ≡ lower-at R C L F H u lo k
 unfolding lower-at
 part-word R C L F H u lo c k v e h = e ∙ ap (λ (x : ℕ). lower-word R C L F H u x k) h

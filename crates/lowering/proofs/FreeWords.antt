@@ -9,7 +9,7 @@ use lib.Dec.{T}
 use lib.ListN.{length}
 use Rattle.definition.specs.Text.{Text, same, member, some-of}
 use Rattle.definition.specs.Token.{Token}
-use Rattle.definition.specs.Syntax.{Term, name, string, anything, Expression, atom, truth, falsity, compare, matching, negation, conjunction, disjunction, implication, equivalence, exists, for-all, closure-of, compare-relations}
+use Rattle.definition.specs.Syntax.{Term, name, string, anything, Expression, atom, truth, falsity, compare, matching, negation, conjunction, disjunction, implication, equivalence, exists, for-all, closure-of, compare-relations, literal, count-of, sum-of, ratio-of, compare-figures}
 use Rattle.definition.specs.Names.{Use, term, in-terms, in-expression, free}
 use Rattle.definition.specs.Accept.{Accepted}
 use Rattle.definition.proofs.BoolLaws.{or-cases}
@@ -56,6 +56,11 @@ module _ (w : Accepted) (ts : List Token) (loops : List Text) (names : List Text
   own (for-all x e) o = (o .0 .0, own e (o .1))
   own (closure-of e) o = own e (o .1)
   own (compare-relations g a b) o = (own a (o .0), own b (o .1))
+  own (literal t) o = o .0
+  own (count-of e) o = own e o
+  own (sum-of a b) o = (own a (o .0), own b (o .1))
+  own (ratio-of a b) o = (own a (o .0), own b (o .1))
+  own (compare-figures g a b) o = (own a (o .0 .0), own b (o .0 .1))
 
   abbrev Covers : List Use → Type 0
   Covers us = Covered names (w .variables) apart us
@@ -92,6 +97,11 @@ module _ (w : Accepted) (ts : List Token) (loops : List Text) (names : List Text
   covered (for-all x e) o = ((λ _ _. o .0 .1), covered e (o .1))
   covered (closure-of e) o = covered e (o .1)
   covered (compare-relations g a b) o = cover-append (in-expression a) (in-expression b) (covered a (o .0)) (covered b (o .1))
+  covered (literal t) o = tt
+  covered (count-of e) o = covered e o
+  covered (sum-of a b) o = cover-append (in-expression a) (in-expression b) (covered a (o .0)) (covered b (o .1))
+  covered (ratio-of a b) o = cover-append (in-expression a) (in-expression b) (covered a (o .0)) (covered b (o .1))
+  covered (compare-figures g a b) o = cover-append (in-expression a) (in-expression b) (covered a (o .0 .0)) (covered b (o .0 .1))
 
   all-in : (xs : List Text) → AllIn names xs → (x : Text) → T (member x xs) → member x names ≡ true
   unfolding AllIn member some-of

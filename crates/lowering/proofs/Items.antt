@@ -8,8 +8,8 @@ use borrow.Author.Tests.{ne-eqb, eqb-true, eqb-false}
 use lib.Dec.{eqb}
 use lib.ListN.{length, getD}
 use Rattle.definition.specs.Text.{Text}
-use Rattle.definition.specs.Syntax.{Term, name, string, anything, Expression, atom, truth, falsity, compare, matching, negation, conjunction, disjunction, implication, equivalence, exists, for-all, closure-of, compare-relations}
-use Rattle.words.specs.Fields.{word, kind-of, p-of, q-of, RELATION-NAME, ATTRIBUTE, TERM, ANYTHING, ATOM, TRUTH, FALSITY, ORDER, NEGATION, CONJUNCTION, DISJUNCTION, IMPLICATION, EQUIVALENCE, EXISTS, FOR-ALL, CLOSURE, COMPARISON, MATCH, ROWS, SAY, LINE-END, STRING}
+use Rattle.definition.specs.Syntax.{Term, name, string, anything, Expression, atom, truth, falsity, compare, matching, negation, conjunction, disjunction, implication, equivalence, exists, for-all, closure-of, compare-relations, literal, count-of, sum-of, ratio-of, compare-figures}
+use Rattle.words.specs.Fields.{word, kind-of, p-of, q-of, RELATION-NAME, ATTRIBUTE, TERM, ANYTHING, ATOM, TRUTH, FALSITY, ORDER, NEGATION, CONJUNCTION, DISJUNCTION, IMPLICATION, EQUIVALENCE, EXISTS, FOR-ALL, CLOSURE, COMPARISON, MATCH, COUNT, LITERAL, SUM, RATIO, FIGURES, ROWS, SAY, LINE-END, AMOUNT, STRING}
 use Rattle.words.specs.Raw.{number, sign-number, leaves, size, flat}
 use Rattle.words.proofs.FieldLaws.{kind-word, byte-a, byte-b, byte-c, byte-d}
 use Rattle.digits.specs.Lists.{pack}
@@ -18,7 +18,7 @@ use Rattle.eval.specs.Nodes.{a-of, b-of, c-of, d-of, n-of}
 use Rattle.words.specs.Standing.{Has}
 use Rattle.prints.specs.Items.{columns-of}
 use Rattle.prints.specs.Lowered.{is-item}
-use Rattle.lowering.specs.Lowering.{at, Halves, four-bytes, slot-of, slots-of, all-stand, kind-field, lower-at, Filled}
+use Rattle.lowering.specs.Lowering.{at, TokenValues, four-bytes, slot-of, slots-of, all-stand, kind-field, lower-at, Filled}
 use Rattle.lowering.proofs.Places.{kind-field-at}
 
 -- the columns of up to four attributes
@@ -100,25 +100,25 @@ unfolding Quiet
 quiet-append [] ys a b = b
 quiet-append (x ∷ xs) ys a b = (a .0, quiet-append xs ys (a .1) b)
 
-quiet-word : (k p q r : ℕ) → k < 256 → (k ≡ ROWS → ⊥) → (k ≡ SAY → ⊥) → (k ≡ LINE-END → ⊥) → is-item (kind-of (word k p q r)) ≡ false
-quiet-word k p q r h a b c = rw (kind-word k p q r h, ne-eqb k ROWS a, ne-eqb k SAY b, ne-eqb k LINE-END c) refl
+quiet-word : (k p q r : ℕ) → k < 256 → (k ≡ ROWS → ⊥) → (k ≡ SAY → ⊥) → (k ≡ LINE-END → ⊥) → (k ≡ AMOUNT → ⊥) → is-item (kind-of (word k p q r)) ≡ false
+quiet-word k p q r h a b c d = rw (kind-word k p q r h, ne-eqb k ROWS a, ne-eqb k SAY b, ne-eqb k LINE-END c, ne-eqb k AMOUNT d) refl
 
-quiet-one : (k p q r : ℕ) → k < 30 → Quiet (word k p q r ∷ [])
+quiet-one : (k p q r : ℕ) → k < 29 → Quiet (word k p q r ∷ [])
 unfolding Quiet
-quiet-one k p q r h = (quiet-word k p q r (omega arith) (λ e. omega arith) (λ e. omega arith) (λ e. omega arith), tt)
+quiet-one k p q r h = (quiet-word k p q r (omega arith) (λ e. omega arith) (λ e. omega arith) (λ e. omega arith) (λ e. omega arith), tt)
 
-quiet-first : (k p q r : ℕ) (ws : List ℕ) → k < 30 → Quiet ws → Quiet (word k p q r ∷ ws)
+quiet-first : (k p q r : ℕ) (ws : List ℕ) → k < 29 → Quiet ws → Quiet (word k p q r ∷ ws)
 unfolding Quiet
-quiet-first k p q r ws h a = (quiet-word k p q r (omega arith) (λ e. omega arith) (λ e. omega arith) (λ e. omega arith), a)
+quiet-first k p q r ws h a = (quiet-word k p q r (omega arith) (λ e. omega arith) (λ e. omega arith) (λ e. omega arith) (λ e. omega arith), a)
 
 pub quiet-leaves : (k : ℕ) (ps : List Term) → k < 8 → Quiet (leaves k ps)
 unfolding Quiet leaves
 quiet-leaves k [] h = tt
-quiet-leaves k (name t ∷ ps) h = (quiet-word k (number t) 0 0 (omega arith) (λ e. omega arith) (λ e. omega arith) (λ e. omega arith), quiet-leaves k ps h)
-quiet-leaves k (string t ∷ ps) h = (quiet-word (STRING + k) (number t) 0 0 (omega arith) (λ e. omega arith) (λ e. omega arith) (λ e. omega arith), quiet-leaves k ps h)
-quiet-leaves k (anything ∷ ps) h = (quiet-word ANYTHING 0 0 0 (omega arith) (λ e. omega arith) (λ e. omega arith) (λ e. omega arith), quiet-leaves k ps h)
+quiet-leaves k (name t ∷ ps) h = (quiet-word k (number t) 0 0 (omega arith) (λ e. omega arith) (λ e. omega arith) (λ e. omega arith) (λ e. omega arith), quiet-leaves k ps h)
+quiet-leaves k (string t ∷ ps) h = (quiet-word (STRING + k) (number t) 0 0 (omega arith) (λ e. omega arith) (λ e. omega arith) (λ e. omega arith) (λ e. omega arith), quiet-leaves k ps h)
+quiet-leaves k (anything ∷ ps) h = (quiet-word ANYTHING 0 0 0 (omega arith) (λ e. omega arith) (λ e. omega arith) (λ e. omega arith) (λ e. omega arith), quiet-leaves k ps h)
 
-quiet-two : (xs ys : List ℕ) (k p q r : ℕ) → k < 30 → Quiet xs → Quiet ys → Quiet (xs ++ (ys ++ (word k p q r ∷ [])))
+quiet-two : (xs ys : List ℕ) (k p q r : ℕ) → k < 29 → Quiet xs → Quiet ys → Quiet (xs ++ (ys ++ (word k p q r ∷ [])))
 quiet-two xs ys k p q r h a b = quiet-append xs _ a (quiet-append ys _ b (quiet-one k p q r h))
 
 pub quiet-flat : (e : Expression) (n : ℕ) → Quiet (flat e n)
@@ -140,9 +140,14 @@ quiet-flat (exists x e) n = quiet-first ATTRIBUTE _ 0 0 _ (omega arith) (quiet-a
 quiet-flat (for-all x e) n = quiet-first ATTRIBUTE _ 0 0 _ (omega arith) (quiet-append (flat e (n + 1)) _ (quiet-flat e (n + 1)) (quiet-one FOR-ALL _ _ 0 (omega arith)))
 quiet-flat (closure-of e) n = quiet-append (flat e n) _ (quiet-flat e n) (quiet-one CLOSURE _ 0 0 (omega arith))
 quiet-flat (compare-relations g a b) n = quiet-two _ _ COMPARISON _ _ (sign-number g) (omega arith) (quiet-flat a n) (quiet-flat b (n + size a))
+quiet-flat (literal t) n = quiet-one LITERAL _ 0 0 (omega arith)
+quiet-flat (count-of e) n = quiet-append (flat e n) _ (quiet-flat e n) (quiet-one COUNT _ 0 0 (omega arith))
+quiet-flat (sum-of a b) n = quiet-two _ _ SUM _ _ 0 (omega arith) (quiet-flat a n) (quiet-flat b (n + size a))
+quiet-flat (ratio-of a b) n = quiet-two _ _ RATIO _ _ 0 (omega arith) (quiet-flat a n) (quiet-flat b (n + size a))
+quiet-flat (compare-figures g a b) n = quiet-two _ _ FIGURES _ _ (sign-number g) (omega arith) (quiet-flat a n) (quiet-flat b (n + size a))
 
 -- lowered, they still print nothing
-module _ (words codes tokens fr : List ℕ) (H : Halves) (u lo hi : ℕ) (old low : List ℕ) (filled : Filled (lower-at (at words) (at codes) (at tokens) (at fr) H u lo) lo hi old low) where
+module _ (words codes tokens fr : List ℕ) (H : TokenValues) (u lo hi : ℕ) (old low : List ℕ) (filled : Filled (lower-at (at words) (at codes) (at tokens) (at fr) H u lo) lo hi old low) where
   still-quiet : (j : ℕ) → lo ≤ j → j < hi → is-item (kind-of (getD words j 0)) ≡ false → is-item (kind-of (getD low j 0)) ≡ false
   unfolding kind-field
   still-quiet j l h e = rw (kind-field-at words codes tokens fr H u lo hi old low filled j l h) (go (eqb (kind-of (getD words j 0)) 11) (all-stand (at words) (at codes) u (q-of (getD words j 0)) (p-of (getD words j 0))))

@@ -1,14 +1,15 @@
 -- The fields of the lowered word at a place whose raw word is known.
-use Prim.Native.Nat.{ℕ, zero, suc, _+_, _*_, _-_, _/_, _%_, _<_, _≤_}
-use mathlib.Core.Path.{_≡_, refl, _∙_}
-use mathlib.Core.Bool.{Bool, true, false, cond}
+use Prim.Native.Nat.{ℕ, zero, suc, _+_, _*_, _-_, _/_, _%_, min, _<_, _≤_}
+use mathlib.Core.Path.{_≡_, refl, ap, _∙_}
+use mathlib.Core.Bool.{Bool, true, false, _||_, cond}
 use mathlib.Core.List.{List, [], _∷_}
 use native.Mathlib.Omega.{arith}
-use borrow.Author.Tests.{lt-ltb, le-ltb, eq-eqb, ne-eqb, eqb-false, le-leb}
+use borrow.Author.Tests.{lt-ltb, le-ltb, eq-eqb, ne-eqb, eqb-true, eqb-false, le-leb}
 use lib.Dec.{eqb}
 use lib.ListN.{length, getD}
 use Rattle.definition.specs.Syntax.{Term, name, string, anything, Expression}
 use Rattle.definition.specs.Names.{closures}
+use Rattle.definition.proofs.BoolLaws.{contradiction}
 use Rattle.words.specs.Fields.{word, kind-of, p-of, q-of, CLOSURE, TERM, ANYTHING, STRING, TRUTH, FALSITY}
 use Rattle.words.specs.Raw.{number, leaf, size, flat}
 use Rattle.words.proofs.FieldLaws.{kind-word, p-word, q-word, r-word}
@@ -19,7 +20,7 @@ use Rattle.digits.specs.Packed.{count}
 use Rattle.slots.specs.Slots.{one-closure, closure-count}
 use Rattle.slots.proofs.ClosureCount.{count-expression}
 use Rattle.words.specs.Standing.{Has}
-use Rattle.lowering.specs.Lowering.{at, Halves, lowered, slot-of, slots-of, mask, label-place, depth-of, term-byte, operands-at, all-stand, closure-field, comparison-field, range-field, kind-field, node-p, p-field, operand-field, count-field, closures-before, lower-word, lower-at, Filled}
+use Rattle.lowering.specs.Lowering.{at, TokenValues, lowered, slot-of, slots-of, mask, label-place, depth-of, term-byte, operands-at, all-stand, closure-field, comparison-field, range-field, kind-field, node-p, p-field, quantity-field, expression-field, operand-field, count-field, closures-before, lower-word, lower-at, Filled}
 use Rattle.lowering.proofs.Words.{kind-lowered, p-lowered, q-lowered, operands-lowered, half-lowered, a-lowered, b-lowered, c-lowered, d-lowered, n-lowered, kind-small, p-small, operand-small, count-field-small}
 
 -- closures counted over words that stand from n on
@@ -43,7 +44,19 @@ module _ (words : List ℕ) (lo : ℕ) where
   closures-more zero k = let e : 0 + k ≡ k = omega arith in rw e (omega arith)
   closures-more (suc m) k = let e : suc m + k ≡ suc (m + k) = omega arith in rw e (omega (arith, closures-more m k))
 
-module _ (words codes tokens fr : List ℕ) (H : Halves) (u lo hi : ℕ) (old low : List ℕ) (filled : Filled (lower-at (at words) (at codes) (at tokens) (at fr) H u lo) lo hi old low) where
+-- a kind whose words have more in the four bytes than a target or child
+abbrev pub has-more : ℕ → Bool
+has-more k =
+    eqb k 6 || (eqb k 10 || (eqb k 13 || (eqb k 21 || (eqb k 22 || (eqb k 23 || (eqb k 24 || (eqb k 25 || (eqb k 28 || (eqb k 30 || (eqb k 33 || eqb k 44))))))))))
+
+is-none : (k j : ℕ) → has-more j ≡ true → has-more k ≡ false → eqb k j ≡ false
+is-none k j t f = go (eqb k j) refl
+  where
+    go : (b : Bool) → eqb k j ≡ b → b ≡ false
+    go true e = contradiction (has-more k) (ap has-more (eqb-true k j e) ∙ t) f
+    go false e = refl
+
+module _ (words codes tokens fr : List ℕ) (H : TokenValues) (u lo hi : ℕ) (old low : List ℕ) (filled : Filled (lower-at (at words) (at codes) (at tokens) (at fr) H u lo) lo hi old low) where
   module _ (k K p q r : ℕ) (hK : K < 256) (hp : p < 65536) (hq : q < 65536) (l : lo ≤ k) (h : k < hi) (e : getD words k 0 ≡ word K p q r) where
     abbrev kk : ℕ
     kk = kind-field (at words) (at codes) u (getD words k 0)
@@ -113,19 +126,19 @@ module _ (words codes tokens fr : List ℕ) (H : Halves) (u lo hi : ℕ) (old lo
     truth-at z = kind-cell ∙ rw (e, kind-word K p q r hK, p-word K p q r hK hp, q-word K p q r hK hp hq, z) refl
 
     -- an operator has the places of its operands
-    pub plain-p : 14 ≤ K → K < 23 → (K ≡ 19 → ⊥) → (K ≡ 20 → ⊥) → p-of (getD low k 0) ≡ p
+    pub plain-p : 14 ≤ K → K < 30 → (K ≡ 19 → ⊥) → (K ≡ 20 → ⊥) → (K ≡ 23 → ⊥) → p-of (getD low k 0) ≡ p
     unfolding p-field node-p
-    plain-p a b x y =
+    plain-p a b x y v =
         p-cell
-        ∙ rw (e, kind-word K p q r hK, p-word K p q r hK hp, le-ltb K 4 (omega arith), le-ltb K 8 (omega arith), ne-eqb K 9 (λ z. omega arith), lt-ltb K 42 (omega arith), ne-eqb K 10 (λ z. omega arith), ne-eqb K 33 (λ z. omega arith), ne-eqb K 13 (λ z. omega arith), ne-eqb K 23 (λ z. omega arith), ne-eqb K 19 x, ne-eqb K 20 y, ne-eqb K 30 (λ z. omega arith)) refl
+        ∙ rw (e, kind-word K p q r hK, p-word K p q r hK hp, le-ltb K 4 (omega arith), le-ltb K 8 (omega arith), ne-eqb K 9 (λ z. omega arith), lt-ltb K 42 (omega arith), ne-eqb K 10 (λ z. omega arith), ne-eqb K 33 (λ z. omega arith), ne-eqb K 13 (λ z. omega arith), ne-eqb K 23 v, ne-eqb K 19 x, ne-eqb K 20 y, ne-eqb K 30 (λ z. omega arith)) refl
 
-    plain-o : 14 ≤ K → K < 21 → oo ≡ q
-    unfolding operand-field
-    plain-o a b =
-        rw (e, kind-word K p q r hK, q-word K p q r hK hp hq, ne-eqb K 6 (λ z. omega arith), ne-eqb K 10 (λ z. omega arith), ne-eqb K 33 (λ z. omega arith), ne-eqb K 13 (λ z. omega arith), ne-eqb K 21 (λ z. omega arith), ne-eqb K 22 (λ z. omega arith), ne-eqb K 23 (λ z. omega arith), ne-eqb K 30 (λ z. omega arith), ne-eqb K 44 (λ z. omega arith)) refl
+    plain-o : has-more K ≡ false → oo ≡ q
+    unfolding operand-field expression-field quantity-field
+    plain-o h =
+        rw (e, kind-word K p q r hK, q-word K p q r hK hp hq, is-none K 6 refl h, is-none K 10 refl h, is-none K 13 refl h, is-none K 21 refl h, is-none K 22 refl h, is-none K 23 refl h, is-none K 24 refl h, is-none K 25 refl h, is-none K 28 refl h, is-none K 30 refl h, is-none K 33 refl h, is-none K 44 refl h) refl
 
-    pub plain-q : 14 ≤ K → K < 21 → q-of (getD low k 0) ≡ q
-    plain-q a b = let m : q % 65536 ≡ q = omega arith in q-cell ∙ rw (plain-o a b) m
+    pub plain-q : has-more K ≡ false → q-of (getD low k 0) ≡ q
+    plain-q n = let m : q % 65536 ≡ q = omega arith in q-cell ∙ rw (plain-o n) m
 
     -- a quantifier has its attribute's slot
     pub quantifier-p : 19 ≤ K → K < 21 → p-of (getD low k 0) ≡ term-byte (at codes) (getD words p 0) % 8
@@ -151,7 +164,7 @@ module _ (words codes tokens fr : List ℕ) (H : Halves) (u lo hi : ℕ) (old lo
     atom-n z = n-cell ∙ rw (e, kind-word K p q r hK, q-word K p q r hK hp hq, z) refl
 
     atom-o : K ≡ 10 → oo ≡ operands-at (at words) (at codes) (p + 1)
-    unfolding operand-field
+    unfolding operand-field expression-field
     atom-o z = rw (e, kind-word K p q r hK, p-word K p q r hK hp, z) refl
 
     pub atom-operands : K ≡ 10 → operands-of (getD low k 0) ≡ operands-at (at words) (at codes) (p + 1) + nn * 4294967296
@@ -163,7 +176,7 @@ module _ (words codes tokens fr : List ℕ) (H : Halves) (u lo hi : ℕ) (old lo
     order-p z = p-cell ∙ rw (e, kind-word K p q r hK, q-word K p q r hK hp hq, z) refl
 
     order-o : K ≡ 13 → oo ≡ operands-at (at words) (at codes) p
-    unfolding operand-field
+    unfolding operand-field expression-field
     order-o z = rw (e, kind-word K p q r hK, p-word K p q r hK hp, z) refl
 
     pub order-a : K ≡ 13 → a-of (getD low k 0) ≡ operands-at (at words) (at codes) p % 256
@@ -178,11 +191,11 @@ module _ (words codes tokens fr : List ℕ) (H : Halves) (u lo hi : ℕ) (old lo
       unfolding p-field node-p
       half-p = p-cell ∙ rw (e, kind-word K p q r hK, q-word K p q r hK hp hq, z) refl
 
-      half-o : oo ≡ H p q % 4294967296
-      unfolding operand-field
+      half-o : oo ≡ H .half p q % 4294967296
+      unfolding operand-field expression-field
       half-o = rw (e, kind-word K p q r hK, p-word K p q r hK hp, q-word K p q r hK hp hq, z) refl
 
-      pub half-set : half-of (getD low k 0) ≡ H p q % 4294967296
+      pub half-set : half-of (getD low k 0) ≡ H .half p q % 4294967296
       half-set = half-cell ∙ half-o
 
       pub half-n : r < 65536 → n-of (getD low k 0) ≡ term-byte (at codes) (getD words r 0)
@@ -191,7 +204,7 @@ module _ (words codes tokens fr : List ℕ) (H : Halves) (u lo hi : ℕ) (old lo
 
     -- a closure has its slots and its number
     closure-o : K ≡ 21 → oo ≡ closure-field (getD fr p 0) (closures-before (at words) lo k)
-    unfolding operand-field
+    unfolding operand-field expression-field
     closure-o z = rw (e, kind-word K p q r hK, p-word K p q r hK hp, z) refl
 
     module _ (z : K ≡ 21) where
@@ -204,20 +217,54 @@ module _ (words codes tokens fr : List ℕ) (H : Halves) (u lo hi : ℕ) (old lo
       pub closure-c : closures-before (at words) lo k < 256 → c-of (getD low k 0) ≡ closures-before (at words) lo k
       closure-c s = c-cell ∙ rw (closure-o z) (omega arith)
 
-    -- a comparison has its second child, its sign and its mask
-    comparison-o : K ≡ 22 → r < 65536 → oo ≡ comparison-field q r (getD fr p 0) (getD fr q 0)
-    unfolding operand-field
-    comparison-o z hr = rw (e, kind-word K p q r hK, p-word K p q r hK hp, q-word K p q r hK hp hq, r-word K p q r hK hp hq hr, z) refl
+    -- a comparison has its second child, its sign and its mask, a count its mask, a comparison of quantities its second child and its sign
+    module _ (a b : ℕ) (o : oo ≡ comparison-field q r a b) (hr : r < 256) where
+      field-q : q-of (getD low k 0) ≡ q
+      field-q = q-cell ∙ rw o (omega arith)
+
+      field-c : c-of (getD low k 0) ≡ r
+      field-c = c-cell ∙ rw o (omega arith)
+
+      field-d : d-of (getD low k 0) ≡ mask a b
+      field-d = d-cell ∙ rw o (omega arith)
 
     module _ (z : K ≡ 22) (hr : r < 256) where
+      comparison-o : oo ≡ comparison-field q r (getD fr p 0) (getD fr q 0)
+      unfolding operand-field expression-field quantity-field
+      comparison-o = rw (e, kind-word K p q r hK, p-word K p q r hK hp, q-word K p q r hK hp hq, r-word K p q r hK hp hq (omega arith), z) refl
+
       pub comparison-q : q-of (getD low k 0) ≡ q
-      comparison-q = q-cell ∙ rw (comparison-o z (omega arith)) (omega arith)
+      comparison-q = field-q (getD fr p 0) (getD fr q 0) comparison-o hr
 
       pub comparison-c : c-of (getD low k 0) ≡ r
-      comparison-c = c-cell ∙ rw (comparison-o z (omega arith)) (omega arith)
+      comparison-c = field-c (getD fr p 0) (getD fr q 0) comparison-o hr
 
       pub comparison-d : d-of (getD low k 0) ≡ mask (getD fr p 0) (getD fr q 0)
-      comparison-d = d-cell ∙ rw (comparison-o z (omega arith)) (omega arith)
+      comparison-d = field-d (getD fr p 0) (getD fr q 0) comparison-o hr
+
+    module _ (z : K ≡ 24) (hr : r < 256) where
+      count-o : oo ≡ comparison-field q r (getD fr p 0) 0
+      unfolding operand-field expression-field quantity-field
+      count-o = rw (e, kind-word K p q r hK, p-word K p q r hK hp, q-word K p q r hK hp hq, r-word K p q r hK hp hq (omega arith), z) refl
+
+      pub count-d : d-of (getD low k 0) ≡ mask (getD fr p 0) 0
+      count-d = field-d (getD fr p 0) 0 count-o hr
+
+    module _ (z : K ≡ 28) (hr : r < 256) where
+      figures-o : oo ≡ comparison-field q r 0 0
+      unfolding operand-field expression-field quantity-field
+      figures-o = rw (e, kind-word K p q r hK, q-word K p q r hK hp hq, r-word K p q r hK hp hq (omega arith), z) refl
+
+      pub figures-q : q-of (getD low k 0) ≡ q
+      figures-q = field-q 0 0 figures-o hr
+
+      pub figures-c : c-of (getD low k 0) ≡ r
+      figures-c = field-c 0 0 figures-o hr
+
+    -- a literal has its value
+    pub literal-half : K ≡ 25 → half-of (getD low k 0) ≡ min (H .number p) 1000000
+    unfolding operand-field expression-field quantity-field
+    literal-half z = half-cell ∙ rw (e, kind-word K p q r hK, p-word K p q r hK hp, z) refl
 
     -- an item of an expression has the place after its label's and its columns
     pub rows-p : K ≡ 30 → p-of (getD low k 0) ≡ label-place p q
@@ -265,26 +312,10 @@ module _ (words codes tokens fr : List ℕ) (H : Halves) (u lo hi : ℕ) (old lo
     unfolding p-field node-p
     print-p z = p-cell ∙ rw (e, kind-word K p q r hK, p-word K p q r hK hp, z) refl
 
-    -- a test, a jump and a WHILE's test again have their target
-    target-o : 34 ≤ K → K < 38 → oo ≡ q
-    unfolding operand-field
-    target-o a b =
-        rw (e, kind-word K p q r hK, q-word K p q r hK hp hq, ne-eqb K 6 (λ z. omega arith), ne-eqb K 10 (λ z. omega arith), ne-eqb K 33 (λ z. omega arith), ne-eqb K 13 (λ z. omega arith), ne-eqb K 21 (λ z. omega arith), ne-eqb K 22 (λ z. omega arith), ne-eqb K 23 (λ z. omega arith), ne-eqb K 30 (λ z. omega arith), ne-eqb K 44 (λ z. omega arith)) refl
-
-    pub target-q : 34 ≤ K → K < 38 → q-of (getD low k 0) ≡ q
-    target-q a b = let m : q % 65536 ≡ q = omega arith in q-cell ∙ rw (target-o a b) m
-
     -- a FOR has its depth, its target and the slot of its one free attribute
     pub loop-p : 6 ≤ K → K < 8 → p-of (getD low k 0) ≡ depth-of (getD codes p 0)
     unfolding p-field
     loop-p a b = p-cell ∙ rw (e, kind-word K p q r hK, p-word K p q r hK hp, le-ltb K 4 (omega arith), lt-ltb K 8 (omega arith)) refl
-
-    next-o : K ≡ 7 → oo ≡ q
-    unfolding operand-field
-    next-o z = rw (e, kind-word K p q r hK, q-word K p q r hK hp hq, z) refl
-
-    pub next-q : K ≡ 7 → q-of (getD low k 0) ≡ q
-    next-q z = let m : q % 65536 ≡ q = omega arith in q-cell ∙ rw (next-o z) m
 
     range-o : K ≡ 6 → oo ≡ range-field q (getD fr (k - 1) 0)
     unfolding operand-field

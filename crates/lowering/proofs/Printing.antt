@@ -9,11 +9,11 @@ use lib.Dec.{ltb}
 use lib.ListN.{length, getD}
 use Rattle.definition.specs.Text.{Text}
 use Rattle.definition.specs.Token.{Token}
-use Rattle.definition.specs.Syntax.{Term, name, string, anything, Expression, Item, rows, line-end}
+use Rattle.definition.specs.Syntax.{Term, name, string, anything, Expression, Item, rows, line-end, amount}
 use Rattle.definition.specs.Syntax as Syntax
 use Rattle.definition.specs.Names.{free}
 use Rattle.definition.specs.Accept.{Accepted, elements}
-use Rattle.words.specs.Fields.{word, kind-of, p-of, WORD, ROWS, SAY, LINE-END, STRING, PRINT}
+use Rattle.words.specs.Fields.{word, kind-of, p-of, WORD, ROWS, SAY, LINE-END, AMOUNT, STRING, PRINT}
 use Rattle.words.specs.Raw.{number, leaf, leaves, size, flat, size-item, flat-item, size-items, flat-items}
 use Rattle.words.proofs.Sizes.{length-leaves, length-flat, length-item}
 use Rattle.intern.specs.Entries.{start-of, text-at}
@@ -23,9 +23,9 @@ use Rattle.digits.proofs.Packing.{count-law}
 use Rattle.free.specs.Words.{is-leaf}
 use Rattle.words.specs.Standing.{Has}
 use Rattle.words.proofs.Places.{has-append, has-one}
-use Rattle.prints.specs.Lowered.{is-item, item-closures, Leaf, by-variable, by-string, Label, no-label, one-label, RowsLowered, ItemLowered, lowered-rows, lowered-word, lowered-end, ItemsLowered, none, more, PrintLowered}
-use Rattle.lowering.specs.Lowering.{at, Halves, label-place, lower-at, Filled}
-use Rattle.lowering.specs.Agreement.{Scoped, ScopedWord, ScopedLabel, ScopedItem, ScopedItems, FreeAt, Agrees, Spelled, Halved}
+use Rattle.prints.specs.Lowered.{is-item, item-closures, Leaf, by-variable, by-string, Label, no-label, one-label, RowsLowered, ItemLowered, lowered-rows, lowered-word, lowered-end, lowered-amount, ItemsLowered, none, more, PrintLowered}
+use Rattle.lowering.specs.Lowering.{at, TokenValues, label-place, lower-at, Filled}
+use Rattle.lowering.specs.Agreement.{Scoped, ScopedWord, ScopedLabel, ScopedItem, ScopedItems, FreeAt, Agrees, Spelled, Valued}
 use Rattle.lowering.proofs.Filling.{none-before}
 use Rattle.lowering.proofs.Terms.{slot-byte}
 use Rattle.lowering.proofs.Places.{kind-only, kind-at, rows-p, rows-n, rows-a, rows-b, rows-c, rows-d, variable-p, string-p, string-q, print-p}
@@ -44,12 +44,12 @@ no-string : is-leaf (STRING + WORD) ≡ false
 unfolding is-leaf
 no-string = refl
 
-no-item : (is-leaf ROWS ≡ false) × (is-leaf SAY ≡ false) × (is-leaf LINE-END ≡ false)
+no-item : (is-leaf ROWS ≡ false) × (is-leaf SAY ≡ false) × (is-leaf LINE-END ≡ false) × (is-leaf AMOUNT ≡ false)
 unfolding is-leaf
-no-item = (refl, refl, refl)
+no-item = (refl, refl, refl, refl)
 
-module _ (w : Accepted) (ts : List Token) (loops : List Text) (In : Text → Bool) (β : Text → ℕ) (Clear : ℕ → Type 0) (words codes tokens fr : List ℕ) (H : Halves) (lo hi : ℕ)
-    (G : Agrees w ts loops In β Clear words codes fr lo hi) (M : Halved w ts H) (query : Text) (S : Spelled ts query tokens) (old low : List ℕ)
+module _ (w : Accepted) (ts : List Token) (loops : List Text) (In : Text → Bool) (β : Text → ℕ) (Clear : ℕ → Type 0) (words codes tokens fr : List ℕ) (H : TokenValues) (lo hi : ℕ)
+    (G : Agrees w ts loops In β Clear words codes fr lo hi) (M : Valued w ts H) (query : Text) (S : Spelled ts query tokens) (old low : List ℕ)
     (filled : Filled (lower-at (at words) (at codes) (at tokens) (at fr) H (elements w) lo) lo hi old low) where
   abbrev count-to : ℕ → ℕ
   count-to n = before w ts loops In β Clear words codes tokens fr H lo hi G M old low filled n
@@ -162,6 +162,17 @@ module _ (w : Accepted) (ts : List Token) (loops : List Text) (In : Text → Boo
   lowered-item (Syntax.word p) n c ec o l h cl x =
       lowered-word (word-leaf n p o l (omega arith) (x .0)) (kind-only words codes tokens fr H (elements w) lo hi old low filled (n + 1) SAY n 0 0 (omega arith) (omega arith) (x .1 .0) (omega arith) (λ z. omega arith))
   lowered-item line-end n c ec o l h cl x = lowered-end (kind-only words codes tokens fr H (elements w) lo hi old low filled n LINE-END 0 0 0 l (omega arith) (x .0) (omega arith) (λ z. omega arith))
+  lowered-item (amount e) n c ec o l h cl x =
+      let t = has-one words n _ e x in
+      let f = length-flat e n in
+      let p : (j : ℕ) → n ≤ j → j < n + size e → is-item (kind-of (getD low j 0)) ≡ false
+      = λ j a b. passed words codes tokens fr H (elements w) lo hi old low filled (flat e n) n l (omega (arith, f)) (t .inner) (quiet-flat e n) j a (omega (arith, f)) in
+      lowered-amount p
+      (record {
+        kind = kind-only words codes tokens fr H (elements w) lo hi old low filled (n + size e) AMOUNT n 0 0 (omega arith) (omega arith) (t .root) (omega arith) (λ z. omega arith);
+        small = o .0;
+        words = lowered-expression w ts loops In β Clear words codes tokens fr H lo hi G M old low filled e n c ec (o .1) l (omega arith) cl (t .inner);
+      })
 
   -- the words after an item
   pub record Next (i : Item) (n c : ℕ) : Type 0 where
@@ -190,6 +201,13 @@ module _ (w : Accepted) (ts : List Token) (loops : List Text) (In : Text → Boo
         clear = G .others n LINE-END 0 0 0 l (omega arith) (omega arith) (no-item .2) (x .0);
         counted = rw s (ec ∙ sym (name-before w ts loops In β Clear words codes tokens fr H lo hi G M old low filled n LINE-END 0 0 0 l (x .0) (omega arith) (λ y. omega arith)));
       }
+  next-item (amount e) n c ec o l h cl x =
+      let t = has-one words n _ e x in
+      let k = n + size e in
+      let z : n + (size e + 1) ≡ k + 1 = omega arith in
+      let a = closures-then w ts loops In β Clear words codes tokens fr H lo hi G M old low filled e n c ec l (t .inner) in
+      let b = name-before w ts loops In β Clear words codes tokens fr H lo hi G M old low filled k AMOUNT n 0 0 (omega arith) (t .root) (omega arith) (λ y. omega arith) in
+      record { clear = rw z (G .others k AMOUNT n 0 0 (omega arith) (omega arith) (omega arith) (no-item .3) (t .root)); counted = rw z (a ∙ sym b) }
 
   lowered-items : (is : List Item) (n c : ℕ) → c ≡ count-to n → ScopedItems w ts loops In is → lo ≤ n → n + size-items is ≤ hi → Clear n → Has words n (flat-items is n) → ItemsLowered w β loops low query is n c
   unfolding size-items flat-items ScopedItems

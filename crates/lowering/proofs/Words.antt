@@ -2,12 +2,13 @@
 use Prim.Native.Nat.{ℕ, _+_, _*_, _-_, _/_, _%_, _<_, _≤_}
 use mathlib.Core.Path.{_≡_}
 use mathlib.Core.Bool.{Bool, true, false, cond}
+use native.Mathlib.Nat.{min-le-right}
 use native.Mathlib.Omega.{arith}
 use lib.Dec.{eqb, ltb}
 use Rattle.words.specs.Fields.{kind-of, p-of, q-of, r-of}
 use Rattle.eval.specs.Nodes.{a-of, b-of, c-of, d-of, n-of, operands-of, half-of}
 use Rattle.digits.specs.Packed.{has}
-use Rattle.lowering.specs.Lowering.{Cells, Halves, lowered, slots-of, slot-bit, mask, term-byte, operands-at, all-stand, kind-field, node-p, p-field, operand-field, count-field}
+use Rattle.lowering.specs.Lowering.{Cells, TokenValues, lowered, slots-of, slot-bit, mask, term-byte, operands-at, all-stand, kind-field, node-p, p-field, quantity-field, expression-field, operand-field, count-field}
 use Rattle.lowering.proofs.Filling.{count-small}
 
 module _ (k p o n : ℕ) (hk : k < 256) (hp : p < 65536) (ho : o < 4294967296) (hn : n < 256) where
@@ -107,17 +108,24 @@ module _ (R C L F : Cells) (u : ℕ) where
   unfolding slots-of
   slots-small f = omega arith
 
-  pub operand-small : (H : Halves) (c k w : ℕ) → operand-field R C L F H c k w < 4294967296
+  quantity-small : (N : Cells) (w : ℕ) → quantity-field F N w < 4294967296
+  unfolding quantity-field
+  quantity-small N w =
+      pick-lt (eqb (w % 256) 22) (omega (arith, mask-small (F (p-of w)) (F (q-of w))))
+      (pick-lt (eqb (w % 256) 24) (omega (arith, mask-small (F (p-of w)) 0)) (pick-lt (eqb (w % 256) 25) (omega (arith, min-le-right (N (p-of w)) 1000000)) (pick-lt (eqb (w % 256) 28) (omega (arith, mask-small 0 0)) (omega arith))))
+
+  expression-small : (H : TokenValues) (c w : ℕ) → expression-field R C F H c w < 4294967296
+  unfolding expression-field
+  expression-small H c w =
+      pick-lt (eqb (w % 256) 10) (operands-small (p-of w + 1))
+      (pick-lt (eqb (w % 256) 13) (operands-small (p-of w)) (pick-lt (eqb (w % 256) 21) (omega arith) (pick-lt (eqb (w % 256) 23) (omega arith) (quantity-small (H .number) w))))
+
+  pub operand-small : (H : TokenValues) (c k w : ℕ) → operand-field R C L F H c k w < 4294967296
   unfolding operand-field
   operand-small H c k w =
       pick-lt (eqb (w % 256) 6) (omega arith)
-      (pick-lt (eqb (w % 256) 10) (operands-small (p-of w + 1))
       (pick-lt (eqb (w % 256) 33) (operands-small (p-of w + 1))
-      (pick-lt (eqb (w % 256) 13) (operands-small (p-of w))
-      (pick-lt (eqb (w % 256) 21) (omega arith)
-      (pick-lt (eqb (w % 256) 22) (omega (arith, mask-small (F (p-of w)) (F (q-of w))))
-      (pick-lt (eqb (w % 256) 23) (omega arith)
-      (pick-lt (eqb (w % 256) 30) (slots-small (F (k - 1))) (pick-lt (eqb (w % 256) 44) (omega arith) (omega arith)))))))))
+      (pick-lt (eqb (w % 256) 30) (slots-small (F (k - 1))) (pick-lt (eqb (w % 256) 44) (omega arith) (expression-small H c w))))
 
   pub count-field-small : (k w : ℕ) → count-field R C F k w < 256
   unfolding count-field

@@ -7,8 +7,9 @@ use mathlib.Core.List.{List, [], _∷_, map}
 use lib.Dec.{T}
 use lib.ListN.{length, getD}
 use Rattle.definition.specs.Text.{Text, member}
-use Rattle.definition.specs.Token.{Token}
-use Rattle.definition.specs.Syntax.{Term, name, string, anything, Expression, atom, truth, falsity, compare, matching, negation, conjunction, disjunction, implication, equivalence, exists, for-all, closure-of, compare-relations, Item, rows, line-end}
+use Rattle.definition.specs.Limits.{LARGEST-LITERAL}
+use Rattle.definition.specs.Token.{Token, value}
+use Rattle.definition.specs.Syntax.{Term, name, string, anything, Expression, atom, truth, falsity, compare, matching, negation, conjunction, disjunction, implication, equivalence, exists, for-all, closure-of, compare-relations, literal, count-of, sum-of, ratio-of, compare-figures, Item, rows, line-end, amount}
 use Rattle.definition.specs.Syntax as Syntax
 use Rattle.definition.specs.Names.{free}
 use Rattle.definition.specs.Tables.{bit}
@@ -18,14 +19,14 @@ use Rattle.definition.specs.Meaning.{numbers}
 use Rattle.definition.proofs.RelationLaws.{place-of, no-relation}
 use Rattle.words.specs.Fields.{word}
 use Rattle.words.specs.Raw.{number, size, flat}
-use Rattle.words.specs.Tokens.{OwnName, OwnString}
+use Rattle.words.specs.Tokens.{OwnName, OwnString, OwnLiteral}
 use Rattle.intern.specs.Entries.{start-of, text-at}
 use Rattle.digits.specs.Lists.{pack}
 use Rattle.digits.proofs.Listing.{Listed}
 use Rattle.free.specs.Words.{is-leaf}
 use Rattle.words.specs.Standing.{Has}
-use Rattle.meaning.specs.Lowered.{root}
-use Rattle.lowering.specs.Lowering.{at, Halves, closures-before}
+use Rattle.meaning.specs.Lowered.{root, Bounded}
+use Rattle.lowering.specs.Lowering.{at, TokenValues, closures-before}
 
 -- `In` says which names are attributes of the statement, `loops` are the variables of the open FORs
 module _ (w : Accepted) (ts : List Token) (loops : List Text) (In : Text → Bool) where
@@ -64,6 +65,11 @@ module _ (w : Accepted) (ts : List Token) (loops : List Text) (In : Text → Boo
   Scoped (for-all x e) = (OwnName ts x × (In (x .text) ≡ true)) × Scoped e
   Scoped (closure-of e) = (length (free (w .variables) e) ≡ 2) × Scoped e
   Scoped (compare-relations g a b) = Scoped a × Scoped b
+  Scoped (literal t) = OwnLiteral ts t × (value (t .text) ≤ LARGEST-LITERAL)
+  Scoped (count-of e) = Scoped e
+  Scoped (sum-of a b) = Scoped a × Scoped b
+  Scoped (ratio-of a b) = Scoped a × Scoped b
+  Scoped (compare-figures g a b) = (Scoped a × Scoped b) × (Bounded w a × Bounded w b)
 
   -- a left-hand term: an attribute of the statement, or a string, which then is an element
   abbrev pub ScopedLeft : Term → Type 0
@@ -90,6 +96,7 @@ module _ (w : Accepted) (ts : List Token) (loops : List Text) (In : Text → Boo
   ScopedItem (rows ps e) = ScopedLabel ps × Scoped e
   ScopedItem (Syntax.word p) = ScopedWord p
   ScopedItem line-end = Unit {0}
+  ScopedItem (amount e) = Bounded w e × Scoped e
 
   unfoldable pub ScopedItems : List Item → Type 0
   ScopedItems [] = Unit {0}
@@ -134,6 +141,7 @@ pub record Spelled (ts : List Token) (query : Text) (tokens : List ℕ) : Type 0
   pub text : (t : Token) → OwnString ts t → text-at query (getD tokens (number t) 0) ≡ t .text
   pub near : (t : Token) → OwnString ts t → start-of (getD tokens (number t) 0) < 65536
 
--- the halves of a pattern's elements are of those that match it
-pub record Halved (w : Accepted) (ts : List Token) (H : Halves) : Type 0 where
-  pub set : (t : Token) → OwnString ts t → (b i : ℕ) → i < 32 → b + i < elements w → bit (H (number t) b % 4294967296) i ≡ matches (t .text) (getD (w .universe) (b + i) [])
+-- the halves of a pattern's elements are of those that match it, and a literal's value is that of its digits
+pub record Valued (w : Accepted) (ts : List Token) (H : TokenValues) : Type 0 where
+  pub set : (t : Token) → OwnString ts t → (b i : ℕ) → i < 32 → b + i < elements w → bit (H .half (number t) b % 4294967296) i ≡ matches (t .text) (getD (w .universe) (b + i) [])
+  pub digits : (t : Token) → OwnLiteral ts t → H .number (number t) ≡ value (t .text)

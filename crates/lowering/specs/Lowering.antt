@@ -1,15 +1,16 @@
 -- The lowered word of a raw word, field by field: the kind, a number p, four bytes from bit 24 on (a target or a child may take two of
 -- them), and a count. A token stands for a code: a relation's number; 64 and the slot of an attribute, 72 and the depth of a loop
 -- variable's FOR; the number of a string's element, or 255.
-use Prim.Native.Nat.{ℕ, zero, suc, _+_, _*_, _-_, _/_, _%_, _<_, _≤_}
+use Prim.Native.Nat.{ℕ, zero, suc, _+_, _*_, _-_, _/_, _%_, min, _<_, _≤_}
 use mathlib.Core.Path.{_≡_}
 use mathlib.Core.Bool.{Bool, true, false, not, cond}
 use mathlib.Core.List.{List}
 use lib.Dec.{eqb, ltb, leb}
 use lib.ListN.{length, getD}
-use Rattle.words.specs.Fields.{kind-of, p-of, q-of, r-of, TERM, ANYTHING, ATOM, TRUTH, FALSITY, ORDER, EXISTS, FOR-ALL, CLOSURE, COMPARISON, MATCH, RANGE, ROWS, ASSIGN, STRING, WORD}
+use Rattle.words.specs.Fields.{kind-of, p-of, q-of, r-of, TERM, ANYTHING, ATOM, TRUTH, FALSITY, ORDER, EXISTS, FOR-ALL, CLOSURE, COMPARISON, MATCH, COUNT, LITERAL, FIGURES, RANGE, ROWS, ASSIGN, STRING, WORD}
 use Rattle.digits.specs.Packed.{has, count}
 use Rattle.definition.specs.Text.{Text}
+use Rattle.definition.specs.Token.{value}
 use Rattle.parts.specs.Entries.{texts-of}
 use Rattle.intern.specs.Entries.{start-of, text-at}
 use Rattle.matching.specs.Halves.{half-of}
@@ -44,13 +45,18 @@ at xs i = getD xs i 0
 abbrev pub Cells : Type 0
 Cells = ℕ → ℕ
 
--- the elements that match the pattern of a token, as the bits of a word: the 32 from a first one on
-abbrev pub Halves : Type 0
-Halves = ℕ → ℕ → ℕ
+-- what the texts of tokens come to: of a pattern the elements that match it, as the bits of a word, the 32 from a first one on; of a run of
+-- digits its value
+pub record TokenValues : Type 0 where
+  pub half : ℕ → ℕ → ℕ
+  pub number : ℕ → ℕ
 
--- those of the universe whose parts are the places, by the texts of the tokens
-unfoldable pub halves : Text → Text → List ℕ → Cells → Halves
-halves facts query places L t b = half-of (text-at query (L t)) (texts-of facts query places) b
+unfoldable pub number-of : Text → Cells → Cells
+number-of query L t = value (text-at query (L t))
+
+-- by the texts of the tokens, in the universe whose parts are the places
+unfoldable pub token-values : Text → Text → List ℕ → Cells → TokenValues
+token-values facts query places L = record { half = λ t b. half-of (text-at query (L t)) (texts-of facts query places) b; number = number-of query L }
 
 -- the operand byte of a term; 254 is "_"
 unfoldable pub term-byte : Cells → ℕ → ℕ
@@ -107,17 +113,27 @@ closure-field f c = slot-of (f % 8) + slot-of (f / 8 % 8) * 256 + c % 256 * 6553
 abbrev pub comparison-field : ℕ → ℕ → ℕ → ℕ → ℕ
 comparison-field q r a b = q + r % 256 * 65536 + mask a b * 16777216
 
--- these, or operands, columns, a half of the matching elements, a printed string's length, a target or child; c closures of the statement stand before the place k
-unfoldable pub operand-field : Cells → Cells → Cells → Cells → Halves → ℕ → ℕ → ℕ → ℕ
+-- of a comparison its second child, its sign and its mask; of a count its mask, of a comparison of quantities its second child and its sign; of
+-- a literal its value, which is at most 999,999 in a program; else a target or child
+unfoldable pub quantity-field : Cells → Cells → ℕ → ℕ
+quantity-field F N w =
+    cond (eqb (kind-of w) COMPARISON) (comparison-field (q-of w) (r-of w) (F (p-of w)) (F (q-of w)))
+    (cond (eqb (kind-of w) COUNT) (comparison-field (q-of w) (r-of w) (F (p-of w)) 0)
+    (cond (eqb (kind-of w) LITERAL) (min (N (p-of w)) 1000000) (cond (eqb (kind-of w) FIGURES) (comparison-field (q-of w) (r-of w) 0 0) (q-of w))))
+
+-- of an expression: these, operands, a closure's slots and number, or a half of the matching elements; c closures of the statement stand before
+unfoldable pub expression-field : Cells → Cells → Cells → TokenValues → ℕ → ℕ → ℕ
+expression-field R C F H c w =
+    cond (eqb (kind-of w) ATOM) (operands-at R C (p-of w + 1))
+    (cond (eqb (kind-of w) ORDER) (operands-at R C (p-of w))
+    (cond (eqb (kind-of w) CLOSURE) (closure-field (F (p-of w)) c) (cond (eqb (kind-of w) MATCH) (H .half (p-of w) (q-of w) % 4294967296) (quantity-field F (H .number) w))))
+
+-- at the place k: these, a FOR's target and slot, operands, columns, or a printed string's length
+unfoldable pub operand-field : Cells → Cells → Cells → Cells → TokenValues → ℕ → ℕ → ℕ → ℕ
 operand-field R C L F H c k w =
     cond (eqb (kind-of w) RANGE) (range-field (q-of w) (F (k - 1)))
-    (cond (eqb (kind-of w) ATOM) (operands-at R C (p-of w + 1))
     (cond (eqb (kind-of w) ASSIGN) (operands-at R C (p-of w + 1))
-    (cond (eqb (kind-of w) ORDER) (operands-at R C (p-of w))
-    (cond (eqb (kind-of w) CLOSURE) (closure-field (F (p-of w)) c)
-    (cond (eqb (kind-of w) COMPARISON) (comparison-field (q-of w) (r-of w) (F (p-of w)) (F (q-of w)))
-    (cond (eqb (kind-of w) MATCH) (H (p-of w) (q-of w) % 4294967296)
-    (cond (eqb (kind-of w) ROWS) (slots-of (F (k - 1))) (cond (eqb (kind-of w) (STRING + WORD)) (L (p-of w) / 64 % 64) (q-of w)))))))))
+    (cond (eqb (kind-of w) ROWS) (slots-of (F (k - 1))) (cond (eqb (kind-of w) (STRING + WORD)) (L (p-of w) / 64 % 64) (expression-field R C F H c w))))
 
 -- how many operands or columns; of a half its operand
 unfoldable pub count-field : Cells → Cells → Cells → ℕ → ℕ → ℕ
@@ -126,7 +142,7 @@ count-field R C F k w =
     (cond (eqb (kind-of w) ASSIGN) (q-of w % 256) (cond (eqb (kind-of w) MATCH) (term-byte C (R (r-of w))) (cond (eqb (kind-of w) ROWS) (count (F (k - 1))) 0)))
 
 -- the word at a place
-unfoldable pub lower-word : Cells → Cells → Cells → Cells → Halves → ℕ → ℕ → ℕ → ℕ
+unfoldable pub lower-word : Cells → Cells → Cells → Cells → TokenValues → ℕ → ℕ → ℕ → ℕ
 lower-word R C L F H u c k = lowered (kind-field R C u (R k)) (p-field R C L (R k)) (operand-field R C L F H c k (R k)) (count-field R C F k (R k))
 
 -- how many closures stand from lo on before a place
@@ -135,7 +151,7 @@ closures-before R lo zero = 0
 closures-before R lo (suc k) = closures-before R lo k + cond (leb lo k) (one-closure (R k)) 0
 
 -- the lowered word at a place of a statement whose words begin at lo
-unfoldable pub lower-at : Cells → Cells → Cells → Cells → Halves → ℕ → ℕ → ℕ → ℕ
+unfoldable pub lower-at : Cells → Cells → Cells → Cells → TokenValues → ℕ → ℕ → ℕ → ℕ
 lower-at R C L F H u lo k = lower-word R C L F H u (closures-before R lo k) k
 
 -- the cells from lo to hi are those of f, and all others are as they were

@@ -1,8 +1,8 @@
 // Lowering: each raw word of a statement becomes the word that evaluation and the step loop read, at the same place.
 ghost use mathlib.Core.Path.{_≡_};
-ghost use Prim.Native.Nat.{_-_, _%_, _<_, _≤_};
+ghost use Prim.Native.Nat.{_-_, _%_, min, _<_, _≤_};
 ghost use lib.ListN.{length, getD};
-ghost use Rattle.lowering.specs.Lowering.{lowered, four-bytes, slot-of, slots-of, slot-bit, mask, at, term-byte, label-place, depth-of, range-field, closure-field, comparison-field, operands-at, may-stand, all-stand, kind-field, node-p, p-field, halves, operand-field, count-field, lower-word, lower-at, Filled};
+ghost use Rattle.lowering.specs.Lowering.{lowered, four-bytes, slot-of, slots-of, slot-bit, mask, at, term-byte, label-place, depth-of, range-field, closure-field, comparison-field, operands-at, may-stand, all-stand, kind-field, node-p, p-field, token-values, number-of, quantity-field, expression-field, operand-field, count-field, lower-word, lower-at, Filled};
 use words::word_at;
 use words::word_before;
 
@@ -214,12 +214,66 @@ fn half_field<'a>(
     p: usize,
     q: usize,
 ) -> u64
-    ensures { λ r. ⌜ (r ≡ halves (now (facts .entry)) (now (query .entry)) (now (places .entry)) (at (now (tokens .entry))) p q % 4294967296) × (r < 4294967296) ⌝ }
+    ensures { λ r. ⌜ (r ≡ token-values (now (facts .entry)) (now (query .entry)) (now (places .entry)) (at (now (tokens .entry))) .half p q % 4294967296) × (r < 4294967296) ⌝ }
 {
     matching::half(facts, query, places, word_at(tokens, p), q) % 4294967296
 }
 
-// The four bytes of a word, where c closures of the statement stand before the place k.
+// The value of the literal whose token is p, 1,000,000 where it is larger.
+fn number_field(query: &[u8], tokens: &[u64], p: usize) -> u64
+    ensures { λ r. ⌜ (r ≡ min (number-of (now (query .entry)) (at (now (tokens .entry))) p) 1000000) × (r < 4294967296) ⌝ }
+{
+    texts::value(intern::text_at(query, word_at(tokens, p)))
+}
+
+// The four bytes of a comparison or a quantity.
+fn quantity_field(query: &[u8], tokens: &[u64], free: &[u64], w: u64) -> u64
+    ensures { λ r. ⌜ (r ≡ quantity-field (at (now (free .entry))) (number-of (now (query .entry)) (at (now (tokens .entry)))) w) × (r < 4294967296) ⌝ }
+{
+    let p = (w / 256 % 65536) as usize;
+    let q = w / 16777216 % 65536;
+    let r = w / 1099511627776 % 65536;
+    match w % 256 {
+        22 => comparison_field(q, r, word_at(free, p), word_at(free, q as usize)),
+        24 => comparison_field(q, r, word_at(free, p), 0),
+        25 => number_field(query, tokens, p),
+        28 => comparison_field(q, r, 0, 0),
+        _ => q,
+    }
+}
+
+// The four bytes of an expression's own word, where c closures of the statement stand before it.
+fn expression_field<'a>(
+    facts: &'a [u8],
+    query: &'a [u8],
+    places: &[usize],
+    words: &[u64],
+    codes: &[u64],
+    tokens: &[u64],
+    free: &[u64],
+    c: u64,
+    w: u64,
+) -> u64
+    ensures { λ r. ⌜ (r ≡ expression-field (at (now (words .entry))) (at (now (codes .entry))) (at (now (free .entry))) (token-values (now (facts .entry)) (now (query .entry)) (now (places .entry)) (at (now (tokens .entry)))) c w) × (r < 4294967296) ⌝ }
+{
+    let p = (w / 256 % 65536) as usize;
+    match w % 256 {
+        10 => operands_at(words, codes, p + 1),
+        13 => operands_at(words, codes, p),
+        21 => closure_field(word_at(free, p), c),
+        23 => half_field(
+            facts,
+            query,
+            places,
+            tokens,
+            p,
+            (w / 16777216 % 65536) as usize,
+        ),
+        _ => quantity_field(query, tokens, free, w),
+    }
+}
+
+// The four bytes of the word at the place k, where c closures of the statement stand before it.
 fn operand_field<'a>(
     facts: &'a [u8],
     query: &'a [u8],
@@ -232,26 +286,15 @@ fn operand_field<'a>(
     k: usize,
     w: u64,
 ) -> u64
-    ensures { λ r. ⌜ (r ≡ operand-field (at (now (words .entry))) (at (now (codes .entry))) (at (now (tokens .entry))) (at (now (free .entry))) (halves (now (facts .entry)) (now (query .entry)) (now (places .entry)) (at (now (tokens .entry)))) c k w) × (r < 4294967296) ⌝ }
+    ensures { λ r. ⌜ (r ≡ operand-field (at (now (words .entry))) (at (now (codes .entry))) (at (now (tokens .entry))) (at (now (free .entry))) (token-values (now (facts .entry)) (now (query .entry)) (now (places .entry)) (at (now (tokens .entry)))) c k w) × (r < 4294967296) ⌝ }
 {
     let p = (w / 256 % 65536) as usize;
-    let q = w / 16777216 % 65536;
     match w % 256 {
-        6 => range_field(q, word_before(free, k)),
-        10 => operands_at(words, codes, p + 1),
+        6 => range_field(w / 16777216 % 65536, word_before(free, k)),
         33 => operands_at(words, codes, p + 1),
-        13 => operands_at(words, codes, p),
-        21 => closure_field(word_at(free, p), c),
-        22 => comparison_field(
-            q,
-            w / 1099511627776 % 65536,
-            word_at(free, p),
-            word_at(free, q as usize),
-        ),
-        23 => half_field(facts, query, places, tokens, p, q as usize),
         30 => slots_of(word_before(free, k)),
         44 => word_at(tokens, p) / 64 % 64,
-        _ => q,
+        _ => expression_field(facts, query, places, words, codes, tokens, free, c, w),
     }
 }
 
@@ -282,7 +325,7 @@ fn lower_word<'a>(
     c: u64,
     k: usize,
 ) -> u64
-    ensures { λ r. ⌜ r ≡ lower-word (at (now (words .entry))) (at (now (codes .entry))) (at (now (tokens .entry))) (at (now (free .entry))) (halves (now (facts .entry)) (now (query .entry)) (now (places .entry)) (at (now (tokens .entry)))) u c k ⌝ }
+    ensures { λ r. ⌜ r ≡ lower-word (at (now (words .entry))) (at (now (codes .entry))) (at (now (tokens .entry))) (at (now (free .entry))) (token-values (now (facts .entry)) (now (query .entry)) (now (places .entry)) (at (now (tokens .entry)))) u c k ⌝ }
 {
     let w = word_at(words, k);
     let kind = kind_field(words, codes, u, w);
@@ -307,7 +350,7 @@ pub fn lower_part<'a>(
     hi: usize,
 )
     requires { ⌜ (lo ≤ hi) × (hi ≤ length (now low)) ⌝ }
-    ensures { λ _. ⌜ Filled (lower-at (at (now (words .entry))) (at (now (codes .entry))) (at (now (tokens .entry))) (at (now (free .entry))) (halves (now (facts .entry)) (now (query .entry)) (now (places .entry)) (at (now (tokens .entry)))) u lo) lo hi (now (low .entry)) (now (low .exit)) ⌝ }
+    ensures { λ _. ⌜ Filled (lower-at (at (now (words .entry))) (at (now (codes .entry))) (at (now (tokens .entry))) (at (now (free .entry))) (token-values (now (facts .entry)) (now (query .entry)) (now (places .entry)) (at (now (tokens .entry)))) u lo) lo hi (now (low .entry)) (now (low .exit)) ⌝ }
 {
     let mut c: u64 = 0;
     let mut k = lo;

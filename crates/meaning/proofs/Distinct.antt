@@ -5,7 +5,7 @@ use mathlib.Core.Bool.{Bool, true, false, not, _||_, cond}
 use mathlib.Core.List.{List, [], _∷_, _++_}
 use lib.Dec.{T, not-T}
 use Rattle.definition.specs.Text.{Text, same, member, some-of, keep}
-use Rattle.definition.specs.Syntax.{Term, name, string, anything, Expression, atom, truth, falsity, compare, matching, negation, conjunction, disjunction, implication, equivalence, exists, for-all, closure-of, compare-relations}
+use Rattle.definition.specs.Syntax.{Term, name, string, anything, Expression, atom, truth, falsity, compare, matching, negation, conjunction, disjunction, implication, equivalence, exists, for-all, closure-of, compare-relations, literal, count-of, sum-of, ratio-of, compare-figures}
 use Rattle.definition.specs.Names.{free, join, attributes}
 use Rattle.definition.proofs.BoolLaws.{or-cases, or-left, or-right, not-both, is-false}
 use Rattle.definition.proofs.DistinctLaws.{Distinct, distinct-none, distinct-one}
@@ -42,7 +42,7 @@ append-distinct {ys = ys} (distinct-one {x} {xs} m d) e h =
     go (inl n) = subst T m n
     go (inr n) = h x n (member-first x xs)
 
-join-distinct : (xs ys : List Text) → Distinct xs → Distinct ys → Distinct (join xs ys)
+pub join-distinct : (xs ys : List Text) → Distinct xs → Distinct ys → Distinct (join xs ys)
 unfolding join
 join-distinct xs ys d e =
     append-distinct d (keep-distinct (λ y. not (member y xs)) e) (λ y m n. not-both (member y xs) n (kept-member (λ y. not (member y xs)) y ys m .1))
@@ -74,3 +74,8 @@ free-distinct vs (exists x e) = keep-distinct (λ y. not (same y (x .text))) (fr
 free-distinct vs (for-all x e) = keep-distinct (λ y. not (same y (x .text))) (free-distinct vs e)
 free-distinct vs (closure-of e) = free-distinct vs e
 free-distinct vs (compare-relations g a b) = distinct-none
+free-distinct vs (literal t) = distinct-none
+free-distinct vs (count-of e) = distinct-none
+free-distinct vs (sum-of a b) = distinct-none
+free-distinct vs (ratio-of a b) = distinct-none
+free-distinct vs (compare-figures g a b) = distinct-none

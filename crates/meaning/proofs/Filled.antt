@@ -9,7 +9,7 @@ use lib.Dec.{T}
 use lib.ListN.{length, getD, set, replicate, take, drop, length-append, List·getD-append}
 use lib.Seq.{sets, sets-eq, length-sets, length-take-le, take-at, take-take, getD-append-add, getD-drop, getD-take, set-comm}
 use Rattle.definition.specs.Text.{Text, member, some-of, all-of}
-use Rattle.definition.specs.Syntax.{Expression, atom, truth, falsity, compare, matching, negation, conjunction, disjunction, implication, equivalence, exists, for-all, closure-of, compare-relations}
+use Rattle.definition.specs.Syntax.{Expression, atom, truth, falsity, compare, matching, negation, conjunction, disjunction, implication, equivalence, exists, for-all, closure-of, compare-relations, literal, count-of, sum-of, ratio-of, compare-figures}
 use Rattle.definition.specs.Names.{free, closures}
 use Rattle.definition.specs.Tables.{Tuple, bit, holds, table, closure}
 use Rattle.definition.specs.Accept.{Accepted, elements}
@@ -32,7 +32,8 @@ use Rattle.meaning.specs.Ready.{Loops, Fits, Tabled, Closes, Held}
 use Rattle.meaning.proofs.Fit.{fits-bind, rest-in}
 use Rattle.definition.proofs.DistinctLaws.{Distinct, distinct-head}
 use Rattle.meaning.proofs.Distinct.{free-distinct}
-use Rattle.meaning.proofs.Means.{root-last, means}
+use Rattle.meaning.proofs.Decoded.{root-last}
+use Rattle.meaning.proofs.Means.{means}
 
 neither : (b : Bool) → _≡_ {A = ℕ} (cond b 11 12) 21 → ⊥
 neither true e = omega arith
@@ -187,6 +188,14 @@ module _ (w : Accepted) (β : Text → ℕ) (loops : List Text) (vs : List ℕ) 
     )
     held-kept (compare-relations g x y) n c s t b l h q k =
         (held-kept x n c s t b (l .0) (first-end x y c b h) q (k .0), held-kept y (n + size x) (c + closure-count x) s t b (l .1 .0) (second-end x y c b h) q (k .1))
+    held-kept (literal x) n c s t b l h q k = tt
+    held-kept (count-of e) n c s t b l h q k = held-kept e n c s t b (l .0) h q k
+    held-kept (sum-of x y) n c s t b l h q k =
+        (held-kept x n c s t b (l .0) (first-end x y c b h) q (k .0), held-kept y (n + size x) (c + closure-count x) s t b (l .1 .0) (second-end x y c b h) q (k .1))
+    held-kept (ratio-of x y) n c s t b l h q k =
+        (held-kept x n c s t b (l .0) (first-end x y c b h) q (k .0), held-kept y (n + size x) (c + closure-count x) s t b (l .1 .0) (second-end x y c b h) q (k .1))
+    held-kept (compare-figures g x y) n c s t b l h q k =
+        (held-kept x n c s t b (l .0) (first-end x y c b h) q (k .0), held-kept y (n + size x) (c + closure-count x) s t b (l .1 .0) (second-end x y c b h) q (k .1))
 
     module _ (p : List ℕ) (tables : (s : List ℕ) → take base s ≡ p → Tabled w β loops vs ts s firsts) where
       -- the store t after the closures of e are filled in s: the words before them stay
@@ -327,4 +336,19 @@ module _ (w : Accepted) (β : Text → ℕ) (loops : List Text) (vs : List ℕ) 
       filled (compare-relations g x y) n c s l room q =
           let f = filled x n c s (l .0) room q in
           joined x y (compare-relations g x y) n c s (λ r k. k) (l .0) (l .1 .1 .two .kind) (λ z. absurd (omega arith)) f
+          (filled y (n + size x) (c + closure-count x) (fill-of x n s) (l .1 .0) (room-after x c s (fill-of x n s) f room) (base-after x c s (fill-of x n s) f q))
+      filled (literal x) n c s l room q = same-store (literal x) c s _ (quiet firsts vs u low 0 n s 1 refl (λ i z. absurd (omega arith)) (ap (kind firsts vs u low) (add-zero n) ∙ l .kind) (λ z. absurd (omega arith))) tt
+      filled (count-of e) n c s l room q =
+          moved e (count-of e) c s (fill-words firsts vs u low (size e + 1) n s) (fill-of e n s) (fill-over firsts vs u low (size e) n s (λ z. let k = l .1 .one .kind in absurd (omega arith))) (λ k. k) (filled e n c s (l .0) room q)
+      filled (sum-of x y) n c s l room q =
+          let f = filled x n c s (l .0) room q in
+          joined x y (sum-of x y) n c s (λ r k. k) (l .0) (l .1 .1 .kind) (λ z. absurd (omega arith)) f
+          (filled y (n + size x) (c + closure-count x) (fill-of x n s) (l .1 .0) (room-after x c s (fill-of x n s) f room) (base-after x c s (fill-of x n s) f q))
+      filled (ratio-of x y) n c s l room q =
+          let f = filled x n c s (l .0) room q in
+          joined x y (ratio-of x y) n c s (λ r k. k) (l .0) (l .1 .1 .kind) (λ z. absurd (omega arith)) f
+          (filled y (n + size x) (c + closure-count x) (fill-of x n s) (l .1 .0) (room-after x c s (fill-of x n s) f room) (base-after x c s (fill-of x n s) f q))
+      filled (compare-figures g x y) n c s l room q =
+          let f = filled x n c s (l .0) room q in
+          joined x y (compare-figures g x y) n c s (λ r k. k) (l .0) (l .1 .1 .0 .two .kind) (λ z. absurd (omega arith)) f
           (filled y (n + size x) (c + closure-count x) (fill-of x n s) (l .1 .0) (room-after x c s (fill-of x n s) f room) (base-after x c s (fill-of x n s) f q))

@@ -1,7 +1,9 @@
 -- A lowered node means what its expression means.
 pub mod Numbers
 pub mod Slots
+pub mod Folds
 pub mod Fit
+pub mod Assignments
 pub mod Terms
 pub mod Decoded
 pub mod Halves

@@ -7,18 +7,19 @@ use mathlib.Core.List.{List, [], _∷_, map}
 use lib.Dec.{T, eqb}
 use lib.ListN.{length, getD}
 use Rattle.definition.specs.Text.{Text, member, some-of, all-of}
-use Rattle.definition.specs.Token.{Token, Sign}
-use Rattle.definition.specs.Syntax.{Term, name, string, anything, Expression, atom, truth, falsity, compare, matching, negation, conjunction, disjunction, implication, equivalence, exists, for-all, closure-of, compare-relations}
+use Rattle.definition.specs.Token.{Token, Sign, value}
+use Rattle.definition.specs.Syntax.{Term, name, string, anything, Expression, atom, truth, falsity, compare, matching, negation, conjunction, disjunction, implication, equivalence, exists, for-all, closure-of, compare-relations, literal, count-of, sum-of, ratio-of, compare-figures}
 use Rattle.definition.specs.Names.{free, join, closures}
 use Rattle.definition.specs.Tables.{bit}
 use Rattle.definition.specs.Pattern.{matches}
 use Rattle.definition.specs.Accept.{Accepted, elements}
-use Rattle.definition.specs.Meaning.{numbers, choices, nowhere}
+use Rattle.definition.specs.Meaning.{Tables, Environment, numbers, choices, nowhere, top, bottom, figure}
 use Rattle.definition.proofs.RelationLaws.{place-of, no-relation}
-use Rattle.words.specs.Fields.{kind-of, p-of, q-of, ATOM, TRUTH, FALSITY, ORDER, NEGATION, CONJUNCTION, DISJUNCTION, IMPLICATION, EQUIVALENCE, EXISTS, FOR-ALL, CLOSURE, COMPARISON, MATCH}
+use Rattle.words.specs.Fields.{kind-of, p-of, q-of, ATOM, TRUTH, FALSITY, ORDER, NEGATION, CONJUNCTION, DISJUNCTION, IMPLICATION, EQUIVALENCE, EXISTS, FOR-ALL, CLOSURE, COMPARISON, MATCH, COUNT, LITERAL, SUM, RATIO, FIGURES}
 use Rattle.words.specs.Raw.{size, sign-number}
 use Rattle.eval.specs.Nodes.{Operand, element, slot, variable, operand, operands, operands-of, a-of, b-of, c-of, d-of, n-of, half-of}
 use Rattle.eval.specs.Nodes as Nodes
+use Rattle.eval.specs.Meaning.{WRAP}
 
 -- the place of an expression's own word, where its words begin at n
 abbrev pub root : Expression → ℕ → ℕ
@@ -39,6 +40,10 @@ pub record Naming (β : Text → ℕ) (loops : List Text) : Type 0 where
   -- two names have two slots
   pub apart : (x y : Text) (i : ℕ) → operand (β x) ≡ slot i → operand (β y) ≡ slot i → x ≡ y
   pub depths : (v : Text) → T (member v loops) → operand (β v) ≡ variable (β v - 72)
+
+-- no part of a quantity comes to the limit of a word's sums, whatever the tables hold
+abbrev pub Bounded : Accepted → Expression → Type 0
+Bounded w e = (ts : Tables) (env : Environment) → (top (figure w ts env e) < WRAP) × (bottom (figure w ts env e) < WRAP)
 
 module _ (w : Accepted) (β : Text → ℕ) (loops : List Text) where
   -- an operand stands for a term
@@ -112,11 +117,28 @@ module _ (w : Accepted) (β : Text → ℕ) (loops : List Text) where
       pub few : c < 16
 
     -- the slots of xs are those of the mask
+    pub record Mask (k : ℕ) (xs : List Text) : Type 0 where
+      pub slots : (x : Text) → T (member x xs) → operand (β x) ≡ slot (β x - 64)
+      pub bits : (i : ℕ) → i < 8 → bit (d-of (at k)) i ≡ some-of (λ x. eqb (β x - 64) i) xs
+
     pub record Comparison (k a b : ℕ) (g : Sign) (xs : List Text) : Type 0 where
       pub two : Two k COMPARISON a b
       pub sign : c-of (at k) ≡ sign-number g
-      pub slots : (x : Text) → T (member x xs) → operand (β x) ≡ slot (β x - 64)
-      pub mask : (i : ℕ) → i < 8 → bit (d-of (at k)) i ≡ some-of (λ x. eqb (β x - 64) i) xs
+      pub mask : Mask k xs
+
+    pub record Literal (k : ℕ) (t : Token) : Type 0 where
+      pub kind : kind-of (at k) ≡ LITERAL
+      pub number : half-of (at k) ≡ value (t .text)
+
+    -- a row has at most 64 elements
+    pub record Count (k a : ℕ) (xs : List Text) : Type 0 where
+      pub one : One k COUNT a
+      pub mask : Mask k xs
+      pub few : elements w ≤ 64
+
+    pub record Figures (k a b : ℕ) (g : Sign) : Type 0 where
+      pub two : Two k FIGURES a b
+      pub sign : c-of (at k) ≡ sign-number g
 
     -- the words of an expression from n on, with c closures of its statement before
     unfoldable pub Lowered : Expression → ℕ → ℕ → Type 0
@@ -135,6 +157,12 @@ module _ (w : Accepted) (β : Text → ℕ) (loops : List Text) where
     Lowered (closure-of e) n c = Lowered e n c × Closure (n + size e) (root e n) (c + closure-count e) e
     Lowered (compare-relations g a b) n c =
         Lowered a n c × (Lowered b (n + size a) (c + closure-count a) × Comparison (n + size a + size b) (root a n) (root b (n + size a)) g (join (free (w .variables) a) (free (w .variables) b)))
+    Lowered (literal t) n c = Literal n t
+    Lowered (count-of e) n c = Lowered e n c × Count (n + size e) (root e n) (free (w .variables) e)
+    Lowered (sum-of a b) n c = Lowered a n c × (Lowered b (n + size a) (c + closure-count a) × Two (n + size a + size b) SUM (root a n) (root b (n + size a)))
+    Lowered (ratio-of a b) n c = Lowered a n c × (Lowered b (n + size a) (c + closure-count a) × Two (n + size a + size b) RATIO (root a n) (root b (n + size a)))
+    Lowered (compare-figures g a b) n c =
+        Lowered a n c × (Lowered b (n + size a) (c + closure-count a) × (Figures (n + size a + size b) (root a n) (root b (n + size a)) g × (Bounded w a × Bounded w b)))
 
     -- m words of a statement from n on, c of its closures before them: words that are no closures, and expressions
     pub data Sequence : ℕ → ℕ → ℕ → List Placed → Type 0 where

@@ -5,7 +5,7 @@ use mathlib.Core.List.{List, [], _∷_}
 use lib.Dec.{T}
 use lib.ListN.{length, getD}
 use Rattle.definition.specs.Text.{Text, member}
-use Rattle.definition.specs.Syntax.{Expression, atom, truth, falsity, compare, matching, negation, conjunction, disjunction, implication, equivalence, exists, for-all, closure-of, compare-relations}
+use Rattle.definition.specs.Syntax.{Expression, atom, truth, falsity, compare, matching, negation, conjunction, disjunction, implication, equivalence, exists, for-all, closure-of, compare-relations, literal, count-of, sum-of, ratio-of, compare-figures}
 use Rattle.definition.specs.Names.{free}
 use Rattle.definition.specs.Tables.{Tuple, holds, table, closure}
 use Rattle.definition.specs.Accept.{Accepted, elements}
@@ -61,6 +61,11 @@ module _ (w : Accepted) (β : Text → ℕ) (loops : List Text) (vs : List ℕ) 
     Held (for-all x e) c = Held e c
     Held (closure-of e) c = Held e c × Closes (c + closure-count e) e
     Held (compare-relations g a b) c = Held a c × Held b (c + closure-count a)
+    Held (literal t) c = Unit {0}
+    Held (count-of e) c = Held e c
+    Held (sum-of a b) c = Held a c × Held b (c + closure-count a)
+    Held (ratio-of a b) c = Held a c × Held b (c + closure-count a)
+    Held (compare-figures g a b) c = Held a c × Held b (c + closure-count a)
 
     -- and so for all expressions of a statement
     unfoldable pub Held-all : List Placed → Type 0

@@ -1,7 +1,7 @@
 -- The closing line, part by part, and its length.
-use Prim.Native.Nat.{ℕ, zero, suc, _+_, _-_, _/_, _%_, _<_, _≤_}
+use Prim.Native.Nat.{ℕ, _+_, _<_, _≤_}
 use mathlib.Core.Path.{_≡_, refl, sym, ap, ap₂, _∙_}
-use mathlib.Core.Bool.{Bool, true, false, cond}
+use mathlib.Core.Bool.{Bool, true, cond}
 use mathlib.Core.List.{List, [], _∷_, _++_, append-assoc}
 use native.Mathlib.Omega.{arith}
 use native.Mathlib.Nat.{min-eq-left}
@@ -12,7 +12,8 @@ use lib.Seq.{sets-eq, take-at}
 use Rattle.definition.specs.Text.{Text, ascii}
 use Rattle.definition.specs.Answer.{ok, refusal, number, place, ending-word}
 use Rattle.definition.specs.Calls.{ran-answer}
-use Rattle.definition.specs.Page.{digits, decimal, page}
+use Rattle.definition.specs.Decimals.{decimal}
+use Rattle.definition.specs.Page.{page}
 use Rattle.definition.specs.declared.Ending.{Ending}
 use Rattle.definition.specs.declared.Ending.the-variants.{Done, Spent, Full}
 use Rattle.definition.specs.declared.Refusal.{Refusal}
@@ -20,34 +21,8 @@ use Rattle.definition.specs.declared.Stopped.{Stopped}
 use Rattle.definition.specs.declared.Ran.{Ran}
 use Rattle.definition.specs.declared.Ran.the-variants.{Ended, Refused}
 use Rattle.lines.specs.Put.{Put}
+use Rattle.lines.proofs.Digits.{few-digits}
 use Rattle.page.specs.Closing.{LINE-BYTES, closing, refusal-text, shown, Closes}
-
--- a number's digits, by how many it may have
-pub digits-none : (k n : ℕ) → k ≡ 0 → [] ≡ digits k n
-unfolding digits
-digits-none k n e = sym (ap (λ (j : ℕ). digits j n) e)
-
-pub digits-last : (k n : ℕ) → (k ≡ 0 → ⊥) → n < 10 → (48 + n) ∷ [] ≡ digits k n
-unfolding digits
-digits-last zero n h l = absurd (h refl)
-digits-last (suc k) n h l = ap (λ (b : Bool). cond b ((48 + n) ∷ []) (digits k (n / 10) ++ ((48 + n % 10) ∷ []))) (sym (lt-ltb n 10 l))
-
-pub digits-more : (k n : ℕ) → (k ≡ 0 → ⊥) → 10 ≤ n → digits (k - 1) (n / 10) ++ ((48 + n % 10) ∷ []) ≡ digits k n
-unfolding digits
-digits-more zero n h l = absurd (h refl)
-digits-more (suc k) n h l =
-    let e : suc k - 1 ≡ k = omega arith in
-    ap (λ (j : ℕ). digits j (n / 10) ++ ((48 + n % 10) ∷ [])) e
-    ∙ ap (λ (b : Bool). cond b ((48 + n) ∷ []) (digits k (n / 10) ++ ((48 + n % 10) ∷ []))) (sym (le-ltb n 10 l))
-
-few-digits : (k n : ℕ) → length (digits k n) ≤ k
-unfolding digits
-few-digits zero n = omega arith
-few-digits (suc k) n = go (ltb n 10) (few-digits k (n / 10))
-  where
-    go : (b : Bool) → length (digits k (n / 10)) ≤ k → length (cond b ((48 + n) ∷ []) (digits k (n / 10) ++ ((48 + n % 10) ∷ []))) ≤ suc k
-    go true h = omega arith
-    go false h = omega (arith, length-append (digits k (n / 10)) ((48 + n % 10) ∷ []))
 
 -- the line of a run that ended, and that of a refusal
 pub stopped-line : (s : Stopped) → (ending-word (s .ending) ++ (32 ∷ decimal (s .steps))) ++ (10 ∷ []) ≡ page (ok s) []

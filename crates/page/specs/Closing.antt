@@ -7,7 +7,8 @@ use lib.ListN.{length, drop}
 use Rattle.definition.specs.Text.{if_then_else_, Text, ascii}
 use Rattle.definition.specs.Answer.{number, place}
 use Rattle.definition.specs.Calls.{ran-answer}
-use Rattle.definition.specs.Page.{decimal, page}
+use Rattle.definition.specs.Decimals.{decimal}
+use Rattle.definition.specs.Page.{page}
 use Rattle.definition.specs.declared.Refusal.{Refusal}
 use Rattle.definition.specs.declared.Ran.{Ran}
 use Rattle.definition.specs.declared.Ran.the-variants.{Ended, Refused}

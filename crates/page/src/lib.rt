@@ -1,11 +1,10 @@
 // What `relcalc` prints of an answer: the first bytes of the output, and the line that closes them.
-ghost use Prim.Native.Nat.{_+_, _≤_};
 ghost use mathlib.Core.Path.{_≡_};
 ghost use mathlib.Core.Bool.{true};
 ghost use mathlib.Core.List.{[], _∷_};
-ghost use lib.ListN.{length};
 ghost use Rattle.definition.specs.Answer.{ok, refusal, ending-word};
-ghost use Rattle.definition.specs.Page.{digits, decimal, page};
+ghost use Rattle.definition.specs.Decimals.{decimal};
+ghost use Rattle.definition.specs.Page.{page};
 ghost use Rattle.lines.specs.Put.{Put};
 ghost use Rattle.page.specs.Closing.{refusal-text, Closes};
 ghost use Rattle.page.specs.Closing.{shown as bytes-shown};
@@ -14,29 +13,15 @@ use definition::Ran;
 use definition::Refusal;
 use definition::Stopped;
 use lines::put;
+use lines::put_decimal;
 use lines::put_text;
-
-// Puts a number of at most k digits.
-pub fn put_digits(out: &mut [u8], at: usize, n: u64, k: usize) -> usize
-    requires { ⌜ at ≤ length (now out) + 1 ⌝ }
-    ensures { λ r. ⌜ Put true (now (out .entry)) at (digits k n) r (now (out .exit)) ⌝ }
-{
-    if k == 0 {
-        return at;
-    }
-    if n < 10 {
-        return put(out, at, 48 + n as u8, true);
-    }
-    let p = put_digits(out, at, n / 10, k - 1);
-    put(out, p, 48 + (n % 10) as u8, true)
-}
 
 // Puts a space and a number.
 pub fn put_number(out: &mut [u8], at: usize, n: u64) -> usize
     ensures { λ r. ⌜ Put true (now (out .entry)) at (32 ∷ decimal n) r (now (out .exit)) ⌝ }
 {
     let p = put(out, at, 32, true);
-    put_digits(out, p, n, 10)
+    put_decimal(out, p, n, true)
 }
 
 // Puts the word of an ending.

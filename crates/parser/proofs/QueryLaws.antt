@@ -8,7 +8,7 @@ use lib.Dec.{eqb, ltb}
 use lib.ListN.{length, take, drop, getD, List·getD-eq-default}
 use lib.Seq.{sets-eq, take-append-seam, length-take-le}
 use borrow.Author.Tests.{lt-ltb, le-ltb, ltb-true, ltb-false}
-use Rattle.definition.proofs.AnswerLaws.{GrammarRows, good, row-10, row-13, grammar-rows}
+use Rattle.definition.proofs.AnswerLaws.{GrammarRows, good, row-10, row-19, row-13, grammar-rows}
 use Rattle.definition.proofs.GrammarFlat.{read-flat}
 use Rattle.definition.specs.Accept.{lexed-answer, read-answer, read-query}
 use Rattle.definition.specs.Answer as Answers
@@ -28,10 +28,10 @@ use Rattle.lexer.specs.Answers.{query-tokens, answer, count-of}
 use Rattle.lexer.specs.declared.Lexed.{Lexed}
 use Rattle.lexer.specs.declared.Lexed.the-variants.{Tokens}
 use Rattle.lexer.specs.declared.Lexed.the-variants as Lexing
-use Rattle.lexer.specs.Tokens.{NAME, STRING, FIRST-SIGN, sign-of, kind-of, at-of, terminal-of, tokens-of, terminals-of, Inside}
+use Rattle.lexer.specs.Tokens.{NAME, STRING, NUMBER, LARGE-NUMBER, FIRST-SIGN, sign-of, kind-of, at-of, terminal-of, tokens-of, terminals-of, Inside}
 use Rattle.parser.specs.declared.QueryRead.{QueryRead}
 use Rattle.parser.specs.declared.QueryRead.the-variants as QueryRead
-use Rattle.parser.specs.Queries.{ReadAs, IsRead, Lexes, IsParsed, place-in, RefusedAt, too-deep, no-program}
+use Rattle.parser.specs.Queries.{ReadAs, IsRead, Lexes, IsParsed, place-in, RefusedAt, too-deep, an-excess, no-program}
 use Rattle.simple.specs.Statements.{Places}
 use Rattle.statements.proofs.SequenceLaws.{tokens-hold}
 use Rattle.statements.specs.Blocks.{whole, ends, IsProgram}
@@ -74,20 +74,22 @@ token-small query ws p i = by (ltb i (length ws)) refl
     by true e = subst (λ n. n < 65536) (sym (ap (λ (t : Token). t .at) (token-held query ws i (ltb-true i (length ws) e)))) (p .small i)
     by false e = subst (λ n. n < 65536) (sym (past (tokens-of query 0 ws) i (omega (arith, ltb-false i (length ws) e, length-tokens query 0 ws)))) (omega arith)
 
--- each identifier and string has its own token's number
+-- each identifier, string and literal has its own token's number
 module _ (query : Text) (ws : List ℕ) (p : (i : ℕ) → token-at (tokens-of query 0 ws) i .at < 65536) where
   one-numbered : (k i : ℕ) → token-at (tokens-of query 0 ws) i .terminal ≡ terminal-of k i → i < length (tokens-of query 0 ws) → Numbered (tokens-of query 0 ws) p (terminal-of k i)
   unfolding terminal-of
-  one-numbered k i e l = at (ltb k FIRST-SIGN) (eqb k NAME) (eqb k STRING) (eqb k Token.AT) e
+  one-numbered k i e l = at (ltb k FIRST-SIGN) (eqb k NAME) (eqb k STRING) (eqb k NUMBER) (eqb k LARGE-NUMBER) (ltb STRING k) e
     where
-      at : (a b c d : Bool)
-          → token-at (tokens-of query 0 ws) i .terminal ≡ (if a then (Token.key k) else if b then (Token.name i) else if c then (Token.string i) else if d then (Token.key k) else (Token.sign (sign-of k)))
-          → Numbered (tokens-of query 0 ws) p (if a then (Token.key k) else if b then (Token.name i) else if c then (Token.string i) else if d then (Token.key k) else (Token.sign (sign-of k)))
-      at true b c d e = tt
-      at false true c d e = (e, l)
-      at false false true d e = (e, l)
-      at false false false true e = tt
-      at false false false false e = tt
+      at : (a b c d f g : Bool)
+          → token-at (tokens-of query 0 ws) i .terminal ≡ (if a then (Token.key k) else if b then (Token.name i) else if c then (Token.string i) else if d then (Token.number false i) else if f then (Token.number true i) else if g then (Token.key k) else (Token.sign (sign-of k)))
+          → Numbered (tokens-of query 0 ws) p (if a then (Token.key k) else if b then (Token.name i) else if c then (Token.string i) else if d then (Token.number false i) else if f then (Token.number true i) else if g then (Token.key k) else (Token.sign (sign-of k)))
+      at true b c d f g e = tt
+      at false true c d f g e = (e, l)
+      at false false true d f g e = (e, l)
+      at false false false true f g e = (e, l)
+      at false false false false true g e = (e, l)
+      at false false false false false true e = tt
+      at false false false false false false e = tt
 
   numbered-from : (n : ℕ) (us : List ℕ) → n + length us ≤ length ws → ((j : ℕ) → j < length us → getD ws (n + j) 0 ≡ getD us j 0) → AllNumbered (tokens-of query 0 ws) p (terminals-of n us)
   unfolding AllNumbered terminals-of
@@ -159,10 +161,11 @@ module _ (query : Text) {ws A A′ : List ℕ} {a : Parser.Answer} (l : Lexes qu
       by true e = place-held query n ws q (ltb-true q (length ws) e)
       by false e = place-past n (tokens-of query 0 ws) q (omega (arith, ltb-false q (length ws) e, length-tokens query 0 ws))
 
-  row-ten : {n row q : ℕ} {ts : List Token} {o : Answer (Tree Grammar.Program)} → GrammarRows n ts o → o ≡ refused row q → (row ≡ 13 → ⊥) → row ≡ 10
-  row-ten (good g) e f = absurd (let z : _≡_ {A = ℕ} 0 1 = cc in omega arith)
-  row-ten (row-10 k g) e f = cc
-  row-ten (row-13 k g) e f = absurd (f cc)
+  row-ten : {n row q : ℕ} {ts : List Token} {o : Answer (Tree Grammar.Program)} → GrammarRows n ts o → o ≡ refused row q → (row ≡ 13 → ⊥) → (row ≡ 19 → ⊥) → row ≡ 10
+  row-ten (good g) e f h = absurd (let z : _≡_ {A = ℕ} 0 1 = cc in omega arith)
+  row-ten (row-10 k g) e f h = cc
+  row-ten (row-19 k g) e f h = absurd (h cc)
+  row-ten (row-13 k g) e f h = absurd (f cc)
 
   pub tokens-refused : {row q : ℕ} {r : Refusal} → a ≡ Refused row q → RefusedAt (length query) ws row q r → read-query query ≡ Answers.refused (number r) (place r)
   tokens-refused {row} {q} {r} i d = by d
@@ -170,9 +173,13 @@ module _ (query : Text) {ws A A′ : List ℕ} {a : Parser.Answer} (l : Lexes qu
       e : read-answer (length query) (tokens-of query 0 ws) (read-program (terminals (tokens-of query 0 ws))) ≡ refused row (place-at (length query) (tokens-of query 0 ws) q)
       e = subst (whole ws (tokens-of query 0 ws) A A′) i (h .at (tokens-of query 0 ws) (tokens-hold query ws)) (length query)
 
+      of-row : (k : ℕ) → row ≡ k → read-query query ≡ Answers.refused k (place-in (length query) ws q)
+      of-row k f = read-no query row _ (l .tokens) e ∙ ap (λ k. refused k (place-at (length query) (tokens-of query 0 ws) q)) f ∙ ap (refused k) (here (length query) q)
+
       by : {r : Refusal} → RefusedAt (length query) ws row q r → read-query query ≡ Answers.refused (number r) (place r)
-      by (too-deep f) = read-no query row _ (l .tokens) e ∙ ap (λ k. refused k (place-at (length query) (tokens-of query 0 ws) q)) f ∙ ap (refused 13) (here (length query) q)
-      by (no-program f) = read-no query row _ (l .tokens) e ∙ ap (λ k. refused k (place-at (length query) (tokens-of query 0 ws) q)) (row-ten (grammar-rows (length query) (tokens-of query 0 ws)) e f) ∙ ap (refused 10) (here (length query) q)
+      by (too-deep f) = of-row 13 f
+      by (an-excess f) = of-row 19 f
+      by (no-program f g) = of-row 10 (row-ten (grammar-rows (length query) (tokens-of query 0 ws)) e f g)
 
 pub place-inside : (n : ℕ) (ws : List ℕ) (q : ℕ) {w : ℕ} → q < length ws → w ≡ at-of (getD ws q 0) → w ≡ place-in n ws q
 unfolding place-in

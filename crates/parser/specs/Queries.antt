@@ -1,4 +1,4 @@
--- A query as its tokens and the words of its program, or the refusal of rows 8, 9, 10 and 13 as the definition has it.
+-- A query as its tokens and the words of its program, or the refusal of rows 8, 9, 10, 19 and 13 as the definition has it.
 use mathlib.Core.List.{List}
 use mathlib.Core.Path.{_≡_}
 use Prim.Native.Nat.{ℕ, _≤_}
@@ -8,7 +8,7 @@ use Rattle.definition.specs.Accept.{read-query}
 use Rattle.definition.specs.Answer as Answers
 use Rattle.definition.specs.Answer.{ok, number, place}
 use Rattle.definition.specs.declared.Refusal.{Refusal}
-use Rattle.definition.specs.declared.Refusal.the-variants.{NoProgram, TooMuch}
+use Rattle.definition.specs.declared.Refusal.the-variants.{NoProgram, TooMuch, Number}
 use Rattle.definition.specs.Syntax.{Program}
 use Rattle.definition.specs.Text.{Text, if_then_else_}
 use Rattle.kinds.specs.Resolved.{Parsed}
@@ -47,7 +47,8 @@ IsParsed query ws words (Refused q) = read-query query ≡ Answers.refused (numb
 unfoldable pub place-in : ℕ → List ℕ → ℕ → ℕ
 place-in n ws q = if ltb q (length ws) then (at-of (getD ws q 0)) else n
 
--- rows 13 and 10 at a token
+-- rows 13, 19 and 10 at a token
 pub data RefusedAt (n : ℕ) (ws : List ℕ) (row q : ℕ) : Refusal → Type 0 where
   too-deep : row ≡ 13 → RefusedAt n ws row q (TooMuch (place-in n ws q))
-  no-program : (row ≡ 13 → ⊥) → RefusedAt n ws row q (NoProgram (place-in n ws q))
+  an-excess : row ≡ 19 → RefusedAt n ws row q (Number (place-in n ws q))
+  no-program : (row ≡ 13 → ⊥) → (row ≡ 19 → ⊥) → RefusedAt n ws row q (NoProgram (place-in n ws q))

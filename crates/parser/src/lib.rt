@@ -26,13 +26,16 @@ fn place_at(query: &[u8], tokens: &[u64], q: usize) -> usize
     query.len()
 }
 
-// The refusal by a row, 10 or 13, at the token q.
+// The refusal by a row, 10, 19 or 13, at the token q.
 fn refusal(query: &[u8], tokens: &[u64], row: usize, q: usize) -> Refusal
     ensures { λ r. ⌜ RefusedAt (length (now (query .entry))) (now (tokens .entry)) row q r ⌝ }
 {
     let at = place_at(query, tokens, q);
     if row == 13 {
         return Refusal::TooMuch(at);
+    }
+    if row == 19 {
+        return Refusal::Number(at);
     }
     Refusal::NoProgram(at)
 }
@@ -48,7 +51,7 @@ fn read_tokens(query: &[u8], tokens: &[u64], words: &mut [u64]) -> QueryRead
     }
 }
 
-// Rows 8, 9, 10 and 13, or the query's tokens and words. What stands behind them, and all of both on a refusal, may be anything.
+// Rows 8, 9, 10, 19 and 13, or the query's tokens and words. What stands behind them, and all of both on a refusal, may be anything.
 pub fn read_query(query: &[u8], tokens: &mut [u64], words: &mut [u64]) -> QueryRead
     requires { ⌜ (2048 ≤ length (now tokens)) × (2048 ≤ length (now words)) ⌝ }
     ensures { λ r. ⌜ IsRead (now (query .entry)) (now (tokens .exit)) (now (words .exit)) r ⌝ }

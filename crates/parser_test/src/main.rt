@@ -2,9 +2,9 @@
 // word, or the row and the place of the refusal.
 use libc::STDOUT_FILENO;
 use lines::put;
+use lines::put_decimal;
 use listing::Item;
 use listing::put_items;
-use page::put_digits;
 use page::put_number;
 use page::put_refusal;
 use parser::QueryRead;
@@ -20,7 +20,7 @@ fn write_line(line: &mut [u8], n: usize) {
 fn put_read(line: &mut [u8], r: QueryRead, words: &[u64]) -> usize {
     match r {
         QueryRead::Read(t, m) => {
-            let p = put_digits(line, 0, t as u64, 10);
+            let p = put_decimal(line, 0, t as u64, true);
             let w = put_number(line, p, m as u64);
             put_items(line, w, Item::Word, words, m)
         }
@@ -70,6 +70,43 @@ fn patterns() {
     show(b"P() := @");
 }
 
+// Quantities: sums and ratios, as items and beside a sign.
+fn quantities() {
+    show(b"PRINT 999999;");
+    show(b"PRINT #(R(x)) + 2 / 3, ENDL;");
+    show(b"PRINT #(R(x)) > 1;");
+    show(b"IF 1 + 2 < #(TRUE()) { P(); }");
+    show(b"P() := EX(x, 1 <= #(x = y));");
+    show(b"PRINT 1+1+1+1+1+1+1+1/1+1+1+1+1+1+1+1;");
+}
+
+// Row 10 where a quantity or its sign is missing, or one stands that may not, a large number too.
+fn no_quantities() {
+    show(b"IF #(P()) { P(); }");
+    show(b"P() := 1 < R(x);");
+    show(b"P() := R(x) < 1;");
+    show(b"PRINT 1 = 2 = 3;");
+    show(b"PRINT 1 / 2 / 3;");
+    show(b"PRINT 1 1000000;");
+    show(b"PRINT #x;");
+    show(b"PRINT #(1);");
+    show(b"P(1000000);");
+}
+
+// Row 19: a number over 999,999, or the first token of a ninth summand; row 10 comes before it at one token, row 13 after it.
+fn excesses() {
+    show(b"PRINT 1000000;");
+    show(b"PRINT 1 / 2 + 1000000;");
+    show(b"PRINT 1+1+1+1+1+1+1+1+1;");
+    show(b"PRINT 1+1+1+1+1+1+1+1+#;");
+    show(b"PRINT 1+1+1+1+1+1+1+1+;");
+    show(b"PRINT 1+1+1+1+1+1+1+1+x;");
+    show(b"P():=((((((((((((((((((((((((((((((((1+1+1+1+1+1+1+1+#(");
+    show(b"P():=((((((((((((((((((((((((((((((((1000000");
+    show(b"P():=((((((((((((((((((((((((((((((((#x");
+    show(b"P():=(((((((((((((((((((((((((((((((#(");
+}
+
 // Row 10: the first token with which no program begins.
 fn refusals() {
     show(b"");
@@ -81,6 +118,7 @@ fn refusals() {
     show(b"{ }");
     show(b"P(_);");
     show(b"P() 1");
+    show(b"P() %");
 }
 
 // 32 levels are taken; the 33rd is row 13, and row 10 comes first at one token.
@@ -98,6 +136,9 @@ fn main() {
     blocks();
     quantifiers();
     patterns();
+    quantities();
+    no_quantities();
+    excesses();
     refusals();
     levels();
 }

@@ -8,9 +8,9 @@ use native.Mathlib.Numerals.{add-one}
 use lib.ListN.{length, getD, drop, drop-of-length-le}
 use lib.Seq.{drop-cons}
 use lib.Dec.{eqb, leb}
-use borrow.Author.Tests.{eq-eqb, ne-eqb}
+use borrow.Author.Tests.{eq-eqb, ne-eqb, eqb-false}
 use Rattle.digits.specs.Packed.{plus, count}
-use Rattle.rows.specs.Tests.{fits, all-fit, left-from, same-digits, own-fits}
+use Rattle.rows.specs.Tests.{limit, fits, all-fit, left-from, same-digits, own-fits}
 
 -- t is the whole test, of which the words from i on are left
 module _ (F : ℕ → ℕ) (part : List ℕ) (s i : ℕ) (t : Bool) (inv : t ≡ all-fit F (drop i part) (s + i)) where
@@ -55,15 +55,33 @@ module _ (R D : ℕ → ℕ) (i n j a v : ℕ) (inv : v ≡ left-from R D (i + j
   unfolding left-from
   left-end h = let q : n - j ≡ 0 = omega arith in sym (inv ∙ rw q refl)
 
+-- the kinds of items with an expression
+item-limit : (c a b : ℕ) → 29 ≤ c → c < 31 → limit c a b ≡ leb b 3
+unfolding limit
+item-limit c a b l h = rw (ne-eqb c 21 (λ e. omega arith), ne-eqb c 24 (λ e. omega arith)) (go (eqb c 29) (eqb c 30) refl refl)
+  where
+    go : (x y : Bool) → eqb c 29 ≡ x → eqb c 30 ≡ y → cond x (leb b 3) (cond y (leb b 3) true) ≡ leb b 3
+    go true y e f = refl
+    go false true e f = refl
+    go false false e f = absurd (omega (arith, eqb-false c 29 e, eqb-false c 30 f))
+
 -- the tests of one word
 module _ (F : ℕ → ℕ) (j w v m : ℕ) (em : m ≡ count v) where
   pub fits-closure : w % 256 ≡ 21 → v ≡ F (w / 256 % 65536) → eqb m 2 ≡ fits F j w
-  unfolding fits
-  fits-closure e ev = rw (eq-eqb (w % 256) 21 e, em, ev) refl
+  unfolding fits limit
+  fits-closure e ev = rw (e, em, ev) refl
 
-  pub fits-rows : (w % 256 ≡ 21 → ⊥) → w % 256 ≡ 30 → v ≡ F (j - 1) → leb m 3 ≡ fits F j w
+  pub fits-count : w % 256 ≡ 24 → v ≡ F (w / 256 % 65536) → leb m 3 ≡ fits F j w
+  unfolding fits limit
+  fits-count e ev = rw (e, em, ev) refl
+
+  pub fits-item : 29 ≤ w % 256 → w % 256 < 31 → v ≡ F (j - 1) → leb m 3 ≡ fits F j w
   unfolding fits
-  fits-rows n e ev = rw (ne-eqb (w % 256) 21 n, eq-eqb (w % 256) 30 e, em, ev) refl
+  fits-item l h ev = sym (item-limit (w % 256) _ _ l h ∙ rw (em, ev) refl)
+
+pub fits-other : (F : ℕ → ℕ) (j w : ℕ) → (w % 256 ≡ 21 → ⊥) → (w % 256 ≡ 24 → ⊥) → (w % 256 ≡ 29 → ⊥) → (w % 256 ≡ 30 → ⊥) → true ≡ fits F j w
+unfolding fits limit
+fits-other F j w a b c d = rw (ne-eqb (w % 256) 21 a, ne-eqb (w % 256) 24 b, ne-eqb (w % 256) 29 c, ne-eqb (w % 256) 30 d) refl
 
 module _ (R D F : ℕ → ℕ) (k w v : ℕ) (ev : v ≡ F (k - 1)) where
   pub own-test : (m : ℕ) → m ≡ count v → w % 256 ≡ 34 → eqb m 0 ≡ own-fits R D F k w

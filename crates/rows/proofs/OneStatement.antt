@@ -5,13 +5,13 @@ use mathlib.Core.Bool.{Bool, true, false, cond, _&&_, _||_}
 use mathlib.Core.List.{List, [], _∷_, _++_, append-nil}
 use native.Mathlib.Omega.{arith}
 use borrow.Author.Tests.{ltb-false}
-use lib.Dec.{eqb, ltb}
+use lib.Dec.{ltb}
 use lib.ListN.{length, getD, take, drop, length-append}
-use Rattle.definition.specs.Text.{Text, member, all-of, gather}
+use Rattle.definition.specs.Text.{Text, member, gather}
 use Rattle.definition.specs.Token.{Token}
 use Rattle.definition.specs.Syntax.{Term, Expression}
 use Rattle.definition.specs.Answer.{ok, refused}
-use Rattle.definition.specs.Names.{Use, use-as, before-terms, attribute-only, after-for, in-terms, in-expression, in-item, free, closures, attribute-names, statement-rows}
+use Rattle.definition.specs.Names.{Use, use-as, before-terms, attribute-only, after-for, in-terms, in-expression, in-item, closures, attribute-names, statement-rows}
 use Rattle.words.specs.Fields.{word, r-of, RELATION-NAME, ATTRIBUTE, BIND, RANGE, ASSIGN, TEST, PRINT}
 use Rattle.words.specs.Raw.{number, leaves, size, flat, size-items, flat-items}
 use Rattle.words.specs.Tokens.{OwnName}
@@ -30,6 +30,7 @@ use Rattle.free.proofs.Slotted.{slot, Covered, covered-names}
 use Rattle.rows.specs.Tests.{all-fit, own-fits, too-much}
 use Rattle.rows.specs.Statements.{Setting, vs, Stated, assigned, printed, tested, ranged}
 use Rattle.rows.proofs.Fitting as Fitting
+use Rattle.rows.proofs.Fitting.{limited, limited-one}
 use Rattle.rows.proofs.Coding.{no-attribute, CodedHere, found-over, found-short, named-digit, other-digit}
 
 -- a statement's words before its own, and its own
@@ -133,35 +134,28 @@ module _ (words ids known : List ℕ) (S : Setting words ids known) where
         place = rw (p .own) (r-word ASSIGN s (length ps) i (omega arith) (omega (arith, S .small)) (omega (arith, S .small)) hi);
       }
 
-  all-one : (p : Expression → Bool) (e : Expression) → all-of p (closures e) ≡ all-of p (gather closures (e ∷ []))
-  unfolding gather
-  all-one p e = ap (all-of p) (sym (append-nil (closures e)))
-
-  abbrev two : Expression → Bool
-  two e = eqb (length (free v e)) 2
-
   -- the tests of the words are the definition's
   module _ (s k : ℕ) (hk : k < length words) (D : ℕ → ℕ) (fr : List ℕ) (filled : Filled words D fr s k) (small : k < 65536) (names : List Text) (short : length names ≤ 4) (loops : (x : Text) → v x ≡ true → member x names ≡ false)
       (named : (c : ℕ) (t : Token) → takes c ≡ true → c < 256 → OwnName (S .ts) t → D (word c (number t) 0 0) ≡ slot names (t .text)) (other : (c p : ℕ) → takes c ≡ false → c < 256 → D (word c p 0 0) ≡ 0) where
     tests : (i : ℕ) (us : List Use) (es : List Expression) (right : Bool) → Stated words ids known S s k i us es right → Covered names v loops us →
-        all-fit (at fr) (take (k - s) (drop s words)) s && own-fits (at words) D (at fr) k (getD words k 0) ≡ right && all-of two (gather closures es)
+        all-fit (at fr) (take (k - s) (drop s words)) s && own-fits (at words) D (at fr) k (getD words k 0) ≡ right && limited v es
     unfolding Has
     tests i us es right (tested i₀ l e hi hl oe ek w) covered =
         let p = split-own words s k (size e) (flat e s) (word TEST 0 l i) (length-flat e s) ek hk w in
-        rw (p .part, ← all-one two e) (Fitting.tested-right (S .ts) (S .few) words fr s k D filled small names short v loops named other e l i oe covered ek (p .has) (p .own))
+        rw (p .part, ← limited-one v e) (Fitting.tested-right (S .ts) (S .few) words fr s k D filled small names short v loops named other e l i oe covered ek (p .has) (p .own))
     tests i us es right (printed i₀ is hi ois ek w) covered =
         let p = split-own words s k (size-items is) (flat-items is s) (word PRINT s 0 i) (length-items is s) ek hk w in
         rw (p .part) (Fitting.printed-right (S .ts) (S .few) words fr s k D filled small names short v loops named other is s i ois covered ek (p .has) (p .own))
     tests i us es right (ranged i₀ l x e hi hl ox oe ek w) covered =
         let p = split-own words s k (1 + size e) (word BIND (number x) 0 0 ∷ flat e (s + 1)) (word RANGE (number x) l i) (omega (arith, length-flat e (s + 1))) (omega (arith, ek)) hk w in
         let q = p .has in
-        rw (p .part, ← all-one two e) (Fitting.ranged-right (S .ts) (S .few) words fr s k D filled small names short v loops named other e (number x) (number x) l i oe covered ek (q .0) (q .1) (p .own))
+        rw (p .part, ← limited-one v e) (Fitting.ranged-right (S .ts) (S .few) words fr s k D filled small names short v loops named other e (number x) (number x) l i oe covered ek (q .0) (q .1) (p .own))
     tests i us es right (assigned i₀ r ps e hi or op oe ek w) covered =
         let m = s + 1 + length ps in
         let p = assigned-split words s k i (number r) ps e ek hk w in
         let q = p .has in
         let t = has-append words (s + 1) (leaves ATTRIBUTE ps) (flat e m) (q .1) in
-        rw (p .part, ← all-one two e)
+        rw (p .part, ← limited-one v e)
         (Fitting.assigned-right (S .ts) (S .few) words fr s k D filled small names short v loops named other e ps (number r) i oe op covered ek (q .0) (t .0) (rw (length-leaves ATTRIBUTE ps) at (t .1)) (p .own))
 
   module _ (s k i : ℕ) (us : List Use) (es : List Expression) (right : Bool) (hk : k < length words) (st : Stated words ids known S s k i us es right) (f : Found)
@@ -225,12 +219,12 @@ module _ (words ids known : List ℕ) (S : Setting words ids known) where
       abbrev pub own : Bool
       own = own-fits (at words) (digit-at f ids) (at fr) k (getD words k 0)
 
-      both-tests : fit && own ≡ right && all-of two (gather closures es)
+      both-tests : fit && own ≡ right && limited v es
       both-tests = tests s k hk (digit-at f ids) fr filled (small few fr filled) names (short few fr filled) loops (named few fr filled) (other few fr filled) i us es right st covered
 
       row-12 : fit && own ≡ false → statement-rows v i us es right ≡ refused 12 (r-of (getD words k 0))
       unfolding statement-rows
-      row-12 t = let q : right && all-of two (gather closures es) ≡ false = sym both-tests ∙ t in rw (few-much, q, it .place) refl
+      row-12 t = let q : right && limited v es ≡ false = sym both-tests ∙ t in rw (few-much, q, it .place) refl
 
       pub refused-words : (x : Bool) → x ≡ fit → x ≡ false → statement-rows v i us es right ≡ refused 12 (r-of (getD words k 0))
       refused-words x e t = let q : fit ≡ false = sym e ∙ t in row-12 (rw q refl)
@@ -243,5 +237,5 @@ module _ (words ids known : List ℕ) (S : Setting words ids known) where
       no-row x y e t g u =
           let q : fit ≡ true = sym e ∙ t in
           let r : own ≡ true = sym g ∙ u in
-          let z : right && all-of two (gather closures es) ≡ true = sym both-tests ∙ rw (q, r) refl in
+          let z : right && limited v es ≡ true = sym both-tests ∙ rw (q, r) refl in
           rw (few-much, z) refl

@@ -3,13 +3,20 @@ use Prim.Native.Nat.{ℕ, zero, suc, _+_, _-_}
 use mathlib.Core.Bool.{Bool, true, false, cond}
 use mathlib.Core.List.{List, [], _∷_}
 use lib.Dec.{eqb, leb, ltb}
-use Rattle.words.specs.Fields.{kind-of, p-of, q-of, RANGE, CLOSURE, ROWS, ASSIGN, TEST}
+use Rattle.words.specs.Fields.{kind-of, p-of, q-of, RANGE, CLOSURE, COUNT, AMOUNT, ROWS, ASSIGN, TEST}
 use Rattle.digits.specs.Packed.{plus, count, inside}
 
+-- "TC and TCFAST two, a printed expression at most 3"; `#(e)`: "Its e has no more free attributes than a printed expression may":
+-- of a word's kind, by how many are free at its operand and at the place before it
+unfoldable pub limit : ℕ → ℕ → ℕ → Bool
+limit c of before =
+    cond (eqb c CLOSURE) (eqb of 2)
+    (cond (eqb c COUNT) (leb of 3) (cond (eqb c AMOUNT) (leb before 3) (cond (eqb c ROWS) (leb before 3) true)))
+
 module _ (F : ℕ → ℕ) where
-  -- "TC and TCFAST two, a printed expression at most 3": the word w at j
+  -- the word w at j
   unfoldable pub fits : ℕ → ℕ → Bool
-  fits j w = cond (eqb (kind-of w) CLOSURE) (eqb (count (F (p-of w))) 2) (cond (eqb (kind-of w) ROWS) (leb (count (F (j - 1))) 3) true)
+  fits j w = limit (kind-of w) (count (F (p-of w))) (count (F (j - 1)))
 
   unfoldable pub all-fit : List ℕ → ℕ → Bool
   all-fit [] j = true

@@ -31,18 +31,17 @@ pub enum Turn {
     Stop(Refusal),
 }
 
-// "TC and TCFAST two, a printed expression at most 3": the word w at j.
+// "TC and TCFAST two, a printed expression at most 3", and so what # counts: the word w at j.
 fn fits(fr: &[u64], j: usize, w: u64) -> bool
     ensures { λ r. ⌜ r ≡ fits (at (now (fr .entry))) j w ⌝ }
 {
-    let c = w % 256;
-    if c == 21 {
-        return digits::count(word_at(fr, (w / 256 % 65536) as usize)) == 2;
+    let p = (w / 256 % 65536) as usize;
+    match w % 256 {
+        21 => digits::count(word_at(fr, p)) == 2,
+        24 => digits::count(word_at(fr, p)) <= 3,
+        29 | 30 => digits::count(word_before(fr, j)) <= 3,
+        _ => true,
     }
-    if c == 30 {
-        return digits::count(word_before(fr, j)) <= 3;
-    }
-    true
 }
 
 // The words of a statement, the first at s.

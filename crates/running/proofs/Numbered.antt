@@ -9,7 +9,7 @@ use lib.Dec.{ltb}
 use lib.ListN.{length, getD, length-append}
 use Rattle.definition.specs.Text.{Text, some-of, all-of}
 use Rattle.definition.specs.Names.{closures}
-use Rattle.definition.specs.Syntax.{Expression, atom, truth, falsity, compare, matching, negation, conjunction, disjunction, implication, equivalence, exists, for-all, closure-of, compare-relations}
+use Rattle.definition.specs.Syntax.{Expression, atom, truth, falsity, compare, matching, negation, conjunction, disjunction, implication, equivalence, exists, for-all, closure-of, compare-relations, literal, count-of, sum-of, ratio-of, compare-figures}
 use Rattle.definition.specs.Accept.{Accepted}
 use Rattle.definition.specs.Meaning.{nowhere, choices}
 use Rattle.words.specs.Fields.{kind-of, TRUTH, FALSITY, CLOSURE}
@@ -79,6 +79,11 @@ module _ (w : Accepted) (β : Text → ℕ) (loops : List Text) (low : List ℕ)
   few-closures (for-all x e) n c l = bound-part (l .0) (few-closures e (n + 1) c (l .1 .0)) (l .1 .1 .kind) (λ h. omega arith)
   few-closures (closure-of e) n c l = then (few-closures e n c (l .0)) (one (λ h. omega (arith, l .1 .number, l .1 .few)))
   few-closures (compare-relations g a b) n c l = two-parts (few-closures a n c (l .0)) (few-closures b (n + size a) (c + closure-count a) (l .1 .0)) (l .1 .1 .two .kind) (λ h. omega arith)
+  few-closures (literal t) n c l = one (λ e. absurd (let k = l .kind in omega arith))
+  few-closures (count-of e) n c l = one-part (few-closures e n c (l .0)) (l .1 .one .kind) (λ h. omega arith)
+  few-closures (sum-of a b) n c l = two-parts (few-closures a n c (l .0)) (few-closures b (n + size a) (c + closure-count a) (l .1 .0)) (l .1 .1 .kind) (λ h. omega arith)
+  few-closures (ratio-of a b) n c l = two-parts (few-closures a n c (l .0)) (few-closures b (n + size a) (c + closure-count a) (l .1 .0)) (l .1 .1 .kind) (λ h. omega arith)
+  few-closures (compare-figures g a b) n c l = two-parts (few-closures a n c (l .0)) (few-closures b (n + size a) (c + closure-count a) (l .1 .0)) (l .1 .1 .0 .two .kind) (λ h. omega arith)
 
   -- a statement's
   pub few-sequence : {n m c : ℕ} {es : List Placed} → Sequence w β loops low n m c es → AllFew n m
@@ -106,3 +111,8 @@ module _ (w : Accepted) (β : Text → ℕ) (loops : List Text) (low : List ℕ)
   count-few (for-all x e) n c l h = count-few e (n + 1) c (l .1 .0) h
   count-few (closure-of e) n c l h = omega (arith, l .1 .few)
   count-few (compare-relations g a b) n c l h = both a b c (count-few b (n + size a) (c + closure-count a) (l .1 .0) (count-few a n c (l .0) h))
+  count-few (literal t) n c l h = omega arith
+  count-few (count-of e) n c l h = count-few e n c (l .0) h
+  count-few (sum-of a b) n c l h = both a b c (count-few b (n + size a) (c + closure-count a) (l .1 .0) (count-few a n c (l .0) h))
+  count-few (ratio-of a b) n c l h = both a b c (count-few b (n + size a) (c + closure-count a) (l .1 .0) (count-few a n c (l .0) h))
+  count-few (compare-figures g a b) n c l h = both a b c (count-few b (n + size a) (c + closure-count a) (l .1 .0) (count-few a n c (l .0) h))

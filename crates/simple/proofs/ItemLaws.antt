@@ -6,7 +6,7 @@ use Prim.Native.Nat.{ℕ, suc, _+_, _-_, _≤_, _<_}
 use lib.ListN.{length, drop, set, getD}
 use Rattle.definition.proofs.GrammarReads.{Stands, Reads, Fails, read!, fail!, as!, as-fails!, _▸_, _▹_, stop!, done!, token!, no-token! }
 use Rattle.definition.proofs.GrammarStatements.{word-name-rule, word-string-rule, not-names-string, no-word!, labelled-rule, endl-rule, more-items-rule, end-items!, item-name!, item-string!, item-call-rule, item-sign-rule, item-string-rule, item-rule, print-rule}
-use Rattle.definition.specs.Grammar.{Tree, Statement, Item, MoreItems, Word, Expression}
+use Rattle.definition.specs.Grammar.{Nonterminal, Tree, Statement, Item, MoreItems, Word, Expression}
 use Rattle.definition.specs.Grammar as Grammar
 use Rattle.definition.specs.Reader.{phrase}
 use Rattle.definition.specs.Syntax.{says, end}
@@ -15,13 +15,13 @@ use Rattle.expressions.proofs.OperatorLaws.{left}
 use Rattle.lexer.specs.Tokens.{at-of}
 use Rattle.simple.proofs.AssignLaws.{unstated}
 use Rattle.simple.proofs.LeftLaws.{no-left}
-use Rattle.simple.specs.Statements.{stated, Span, spans, IsStatement, IsItem, RowsRoom, Rows, Plainly, a-call, a-compared-name, a-compared-string, another, Alone, a-name-alone, a-string-alone, Worded, a-name-word, a-string-word}
+use Rattle.simple.specs.Statements.{stated, Span, spans, IsStatement, IsItem, ItemRoom, ItemClosed, Plainly, a-call, a-compared-name, a-compared-string, another, Alone, a-name-alone, a-string-alone, Worded, a-name-word, a-string-word}
 use Rattle.terms.proofs.LeafLaws.{leaf-name, leaf-string, Leaf, a-name-leaf, a-string-leaf, any-leaf, which-leaf, leaf-within}
-use Rattle.terms.proofs.TokenLaws.{kind-within, key-first, key-then, name-first, string-first, sign-first, name-number, string-number, place-of, not-key, not-name, not-string, not-sign}
+use Rattle.terms.proofs.TokenLaws.{kind-within, key-first, key-then, name-first, string-first, sign-first, name-number, string-number, place-of, not-key, not-name, not-string, not-sign, begins-none}
 use Rattle.terms.proofs.WriteLaws.{wrote-one, wrote-then, wrote-next, wrote-as}
 use Rattle.terms.specs.declared.Answer.{Answer}
 use Rattle.terms.specs.declared.Answer.the-variants.{Read, Refused}
-use Rattle.terms.specs.Phrases.{kind-in, seen, Holds, Wrote, far, IsExpression}
+use Rattle.terms.specs.Phrases.{kind-in, seen, Holds, Wrote, Meaning, far, Parsed, IsExpression}
 use Rattle.terms.specs.Terms.{leaf-in, IsSign}
 use Rattle.words.proofs.Sizes.{length-item}
 use Rattle.words.specs.Fields as Fields
@@ -29,7 +29,7 @@ use Rattle.words.specs.Fields.{word, WORD, ROWS, SAY, LINE-END}
 use Rattle.words.specs.Raw.{leaf, leaves, flat, flat-item, flat-items, flat-program}
 
 -- an item that is an expression
-rows-words : (ts : List Token) (t : Tree Expression) (n : ℕ) → flat (says ts t) n ++ (word ROWS n 0 0 ∷ []) ≡ flat-item (says ts (Grammar.item-expression t)) n
+pub rows-words : (ts : List Token) (t : Tree Expression) (n : ℕ) → flat (says ts t) n ++ (word ROWS n 0 0 ∷ []) ≡ flat-item (says ts (Grammar.item-expression t)) n
 unfolding says flat-item leaves
 rows-words ts t n = let e : n ≡ n + 0 = omega arith in ap (λ i. flat (says ts t) i ++ (word ROWS n 0 0 ∷ [])) e
 
@@ -37,19 +37,19 @@ plainly-stands : (ws : List ℕ) (p : ℕ) → Plainly ws p → Stands (phrase I
 plainly-stands ws p (a-call e f) = item-call-rule (name-first ws p e) (key-first ws (p + 1) f (omega arith))
 plainly-stands ws p (a-compared-name e f) = item-sign-rule (name-first ws p e) (sign-first ws (p + 1) (f .low) (f .high))
 plainly-stands ws p (a-compared-string e f) = item-string-rule (string-first ws p e) (sign-first ws (p + 1) (f .low) (f .high))
-plainly-stands ws p (another a b c d) = item-rule (not-names-string _ (not-name ws p a) (not-string ws p b)) (not-key ws p c) (not-key ws p d)
+plainly-stands ws p (another h n) = item-rule (not-names-string _ (not-name ws p (h .no-name)) (not-string ws p (h .no-string))) (begins-none ws p n) (not-key ws p (h .no-label)) (not-key ws p (h .no-endl))
 
-pub rows-room : {ws : List ℕ} {p n d M i s : ℕ} {A A′ : List ℕ} {b : Answer} → IsExpression ws p n d A A′ b → i < 65536 → s < 65536 → n < p → length ws ≤ M → RowsRoom M i s b
-rows-room {ws} {p} {n} {M = M} {i} {s} {b = b} h hi hs hp hm = by b (h .bounds)
+pub item-room : {x : Nonterminal} {e : Meaning x} {ws : List ℕ} {p n d M i s : ℕ} {A A′ : List ℕ} {b : Answer} (k : ℕ) → Parsed x e ws p n d A A′ b → k < 256 → i < 65536 → s < 65536 → n < p → length ws ≤ M → ItemRoom M k i s b
+item-room {ws = ws} {p} {n} {M = M} {i} {s} {b = b} k h hk hi hs hp hm = by b (h .bounds)
   where
-    by : (b : Answer) → far ws p n b → RowsRoom M i s b
-    by (Read q l) o = (omega (arith, o .paid, o .within), (hi, hs))
+    by : (b : Answer) → far ws p n b → ItemRoom M k i s b
+    by (Read q l) o = (omega (arith, o .paid, o .within), (hk, (hi, hs)))
     by (Refused row q) o = tt
 
-pub plain-item : {ws : List ℕ} {p n d : ℕ} {A A₁ A₂ : List ℕ} {a r : Answer} → Plainly ws p → IsExpression ws p n d A A₁ a → Rows n 0 A₁ A₂ a r → IsItem ws p n d A A₂ r
+pub plain-item : {ws : List ℕ} {p n d : ℕ} {A A₁ A₂ : List ℕ} {a r : Answer} → Plainly ws p → IsExpression ws p n d A A₁ a → ItemClosed ROWS n 0 A₁ A₂ a r → IsItem ws p n d A A₂ r
 plain-item {ws} {p} {n} {d} {A} {A₁} {A₂} {a} {r} e h j = by a h j
   where
-    by : (a : Answer) → IsExpression ws p n d A A₁ a → Rows n 0 A₁ A₂ a r → IsItem ws p n d A A₂ r
+    by : (a : Answer) → IsExpression ws p n d A A₁ a → ItemClosed ROWS n 0 A₁ A₂ a r → IsItem ws p n d A A₂ r
     by (Read q m) h j =
         let o = h .bounds in
         subst (IsItem ws p n d A A₂) (sym (j .0)) (record {
@@ -135,10 +135,10 @@ module _ (ws : List ℕ) (p n d : ℕ) (A : List ℕ) (l : d ≤ 32) (e : kind-i
     pub label-open : (kind-in ws (p + 2) ≡ RBRACKET → ⊥) → {B : List ℕ} → IsItem ws p n d A B (Refused 10 (p + 2))
     label-open h = let i = leaf-within ws (p + 1) WORD f in unstated (omega arith) (fail! labelled-rule l (key-first ws p e (omega arith)) (label ▹ stop! (no-token! (not-key ws (p + 2) h))))
 
-    pub label-item : {w : ℕ} {A₁ A₂ : List ℕ} {a r : Answer} → kind-in ws (p + 2) ≡ RBRACKET → w ≡ leaf-in ws (p + 1) WORD → IsExpression ws (p + 3) (n + 1) d (set A n w) A₁ a → Rows n 1 A₁ A₂ a r → IsItem ws p n d A A₂ r
+    pub label-item : {w : ℕ} {A₁ A₂ : List ℕ} {a r : Answer} → kind-in ws (p + 2) ≡ RBRACKET → w ≡ leaf-in ws (p + 1) WORD → IsExpression ws (p + 3) (n + 1) d (set A n w) A₁ a → ItemClosed ROWS n 1 A₁ A₂ a r → IsItem ws p n d A A₂ r
     label-item {w} {A₁} {A₂} {a} {r} h i v j = by a v j
       where
-        by : (a : Answer) → IsExpression ws (p + 3) (n + 1) d (set A n w) A₁ a → Rows n 1 A₁ A₂ a r → IsItem ws p n d A A₂ r
+        by : (a : Answer) → IsExpression ws (p + 3) (n + 1) d (set A n w) A₁ a → ItemClosed ROWS n 1 A₁ A₂ a r → IsItem ws p n d A A₂ r
         by (Read q m) v j =
             let o = v .bounds in
             subst (IsItem ws p n d A A₂) (sym (j .0)) (record {

@@ -2,3 +2,4 @@
 pub mod LeftLaws
 pub mod AssignLaws
 pub mod ItemLaws
+pub mod AmountLaws

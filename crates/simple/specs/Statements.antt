@@ -12,8 +12,8 @@ use Rattle.lexer.specs.Tokens.{at-of, NAME, STRING}
 use Rattle.terms.specs.declared.Answer.{Answer}
 use Rattle.terms.specs.declared.Answer.the-variants.{Read, Refused}
 use Rattle.terms.specs.Phrases.{kind-in, seen, Holds, Wrote}
-use Rattle.terms.specs.Terms.{leaf-in, IsSign}
-use Rattle.words.specs.Fields.{word, TERM, TRUTH, ROWS, ASSIGN}
+use Rattle.terms.specs.Terms.{leaf-in, IsSign, NoQuantity}
+use Rattle.words.specs.Fields.{word, TERM, TRUTH, ASSIGN}
 use Rattle.words.specs.Raw.{flat-item, flat-program}
 
 -- the tokens' places fit a field of a word
@@ -61,14 +61,14 @@ unfoldable pub terms-in : List ℕ → ℕ → ℕ → List ℕ
 terms-in ws p zero = []
 terms-in ws p (suc k) = leaf-in ws p TERM ∷ terms-in ws (p + 2) k
 
--- after an item's expression: the item's word
-abbrev pub RowsRoom : ℕ → ℕ → ℕ → Answer → Type 0
-RowsRoom M n s (Read q m) = (m < M) × ((n < 65536) × (s < 65536))
-RowsRoom M n s (Refused row q) = Unit {0}
+-- after an item's expression or quantity: the item's word, of kind k
+abbrev pub ItemRoom : ℕ → ℕ → ℕ → ℕ → Answer → Type 0
+ItemRoom M k n s (Read q m) = (m < M) × ((k < 256) × ((n < 65536) × (s < 65536)))
+ItemRoom M k n s (Refused row q) = Unit {0}
 
-abbrev pub Rows : ℕ → ℕ → List ℕ → List ℕ → Answer → Answer → Type 0
-Rows n s A A′ (Read q m) r = (r ≡ Read q (m + 1)) × (A′ ≡ set A m (word ROWS n s 0))
-Rows n s A A′ (Refused row q) r = r ≡ Refused row q
+abbrev pub ItemClosed : ℕ → ℕ → ℕ → List ℕ → List ℕ → Answer → Answer → Type 0
+ItemClosed k n s A A′ (Read q m) r = (r ≡ Read q (m + 1)) × (A′ ≡ set A m (word k n s 0))
+ItemClosed k n s A A′ (Refused row q) r = r ≡ Refused row q
 
 -- room for the words of `R(t,..);` after its terms
 pub record Asserts (ws : List ℕ) (M p n m : ℕ) : Type 0 where
@@ -104,12 +104,19 @@ abbrev pub Finished : List ℕ → ℕ → ℕ → ℕ → List ℕ → List ℕ
 Finished ws p n m A A′ (Read q l) r = Ended ws p n m A A′ q l r
 Finished ws p n m A A′ (Refused row q) r = r ≡ Refused row q
 
+-- a token that begins an expression or a quantity, if it begins an item
+pub record Unworded (k : ℕ) : Type 0 where
+  pub no-name : k ≡ NAME → ⊥
+  pub no-string : k ≡ STRING → ⊥
+  pub no-label : k ≡ LBRACKET → ⊥
+  pub no-endl : k ≡ ENDL → ⊥
+
 -- a token that begins an item, by what follows it: an expression, or a name or string alone
 pub data Plainly (ws : List ℕ) (p : ℕ) : Type 0 where
   a-call : kind-in ws p ≡ NAME → kind-in ws (p + 1) ≡ LPAREN → Plainly ws p
   a-compared-name : kind-in ws p ≡ NAME → IsSign (kind-in ws (p + 1)) → Plainly ws p
   a-compared-string : kind-in ws p ≡ STRING → IsSign (kind-in ws (p + 1)) → Plainly ws p
-  another : (kind-in ws p ≡ NAME → ⊥) → (kind-in ws p ≡ STRING → ⊥) → (kind-in ws p ≡ LBRACKET → ⊥) → (kind-in ws p ≡ ENDL → ⊥) → Plainly ws p
+  another : Unworded (kind-in ws p) → NoQuantity (kind-in ws p) → Plainly ws p
 
 pub data Alone (ws : List ℕ) (p : ℕ) : Type 0 where
   a-name-alone : kind-in ws p ≡ NAME → (kind-in ws (p + 1) ≡ LPAREN → ⊥) → (41 ≤ kind-in ws (p + 1) → kind-in ws (p + 1) ≤ 46 → ⊥) → Alone ws p

@@ -3,10 +3,14 @@ ghost use lib.ListN.{length, getD};
 ghost use mathlib.Core.Path.{_≡_};
 ghost use Prim.Native.Nat.{_+_, _-_, _*_, _<_, _≤_};
 ghost use Rattle.lexer.specs.Tokens.{at-of};
-ghost use Rattle.simple.specs.Statements.{Places, terms-in, asserted, Asserts, FinishRoom, Finished, RowsRoom, Rows, Plainly, Alone, Worded, IsItem, IsStatement};
+ghost use Rattle.simple.specs.Statements.{Places, terms-in, asserted, Asserts, FinishRoom, Finished, ItemRoom, ItemClosed, Unworded, Plainly, Alone, Worded, IsItem, IsStatement};
 ghost use Rattle.terms.specs.Phrases.{kind-in, Room, Wrote};
+ghost use Rattle.terms.specs.Terms.{FirstOfQuantity};
 use expressions::comparison;
+use expressions::join;
+use expressions::quantity;
 use terms::Answer;
+use terms::begins_quantity;
 use terms::kind_at;
 use terms::leaf_at;
 use terms::list;
@@ -84,14 +88,14 @@ fn finish(tokens: &[u64], words: &mut [u64], p: usize, n: usize, m: usize, b: An
     Answer::Read(q + 1, l + 1)
 }
 
-// After an item's expression: the item's word, which has the place of the first word and the number of labels.
-fn rows(words: &mut [u64], n: usize, labels: u64, a: Answer) -> Answer
-    requires { ⌜ RowsRoom (length (now words)) n labels a ⌝ }
-    ensures { λ r. ⌜ Rows n labels (now (words .entry)) (now (words .exit)) a r ⌝ }
+// After an item's expression or quantity: the item's word, of the given kind, which has the place of the first word and the number of labels.
+fn close_item(words: &mut [u64], kind: u64, n: usize, labels: u64, a: Answer) -> Answer
+    requires { ⌜ ItemRoom (length (now words)) kind n labels a ⌝ }
+    ensures { λ r. ⌜ ItemClosed kind n labels (now (words .entry)) (now (words .exit)) a r ⌝ }
 {
     match a {
         Answer::Read(q, m) => {
-            words[m] = pack(30, n as u64, labels, 0);
+            words[m] = pack(kind, n as u64, labels, 0);
             Answer::Read(q, m + 1)
         }
         Answer::Refused(row, q) => Answer::Refused(row, q),
@@ -104,7 +108,7 @@ fn expression_item(tokens: &[u64], words: &mut [u64], p: usize, n: usize, d: usi
     ensures { λ r. ⌜ IsItem (now (tokens .entry)) p n d (now (words .entry)) (now (words .exit)) r ⌝ }
 {
     let a = comparison(tokens, words, p, n, d);
-    rows(words, n, 0, a)
+    close_item(words, 30, n, 0, a)
 }
 
 // A string or loop variable at p as an item.
@@ -131,7 +135,7 @@ fn labelled(tokens: &[u64], words: &mut [u64], p: usize, n: usize, d: usize) -> 
     }
     words[n] = w;
     let a = comparison(tokens, words, p + 3, n + 1, d);
-    rows(words, n, 1, a)
+    close_item(words, 30, n, 1, a)
 }
 
 // An item that begins with a name or a string, of the given kind: what follows tells whether it stands alone.
@@ -154,6 +158,39 @@ fn word_item(tokens: &[u64], words: &mut [u64], p: usize, n: usize, d: usize, ki
     expression_item(tokens, words, p, n, d)
 }
 
+// An item that begins with a quantity: beside a sign it is an expression.
+fn quantity_item(tokens: &[u64], words: &mut [u64], p: usize, n: usize, d: usize) -> Answer
+    requires { ⌜ FirstOfQuantity (kind-in (now tokens) p) × Room (now tokens) (length (now words)) p (n + 1) d ⌝ }
+    ensures { λ r. ⌜ IsItem (now (tokens .entry)) p n d (now (words .entry)) (now (words .exit)) r ⌝ }
+{
+    let a = quantity(tokens, words, p, n, d);
+    let Answer::Read(q, m) = a else {
+        return a;
+    };
+    let g = kind_at(tokens, q);
+    if g < 41 {
+        return close_item(words, 29, n, 0, a);
+    }
+    if g > 46 {
+        return close_item(words, 29, n, 0, a);
+    }
+    let b = quantity(tokens, words, q + 1, m, d);
+    let c = join(words, 28, m, g - 41, b);
+    close_item(words, 30, n, 0, c)
+}
+
+// An item that is told by no word at its first token: a quantity or an expression.
+fn other_item(tokens: &[u64], words: &mut [u64], p: usize, n: usize, d: usize) -> Answer
+    requires { ⌜ Unworded (kind-in (now tokens) p) × Room (now tokens) (length (now words)) p (n + 1) d ⌝ }
+    ensures { λ r. ⌜ IsItem (now (tokens .entry)) p n d (now (words .entry)) (now (words .exit)) r ⌝ }
+{
+    if begins_quantity(tokens, p) {
+        quantity_item(tokens, words, p, n, d)
+    } else {
+        expression_item(tokens, words, p, n, d)
+    }
+}
+
 fn item(tokens: &[u64], words: &mut [u64], p: usize, n: usize, d: usize) -> Answer
     requires { ⌜ Room (now tokens) (length (now words)) p (n + 1) d ⌝ }
     ensures { λ r. ⌜ IsItem (now (tokens .entry)) p n d (now (words .entry)) (now (words .exit)) r ⌝ }
@@ -166,7 +203,7 @@ fn item(tokens: &[u64], words: &mut [u64], p: usize, n: usize, d: usize) -> Answ
         }
         47 => word_item(tokens, words, p, n, d, 47),
         48 => word_item(tokens, words, p, n, d, 48),
-        _ => expression_item(tokens, words, p, n, d),
+        _ => other_item(tokens, words, p, n, d),
     }
 }
 

@@ -1,16 +1,17 @@
 -- The closures among a statement's words are those of its expressions.
 use Prim.Native.Nat.{ℕ, suc, _+_, _<_}
-use mathlib.Core.Path.{_≡_, refl, sym, ap, _∙_}
-use mathlib.Core.List.{List, [], _∷_, _++_, append-assoc}
+use mathlib.Core.Path.{_≡_, refl, ap, _∙_}
+use mathlib.Core.List.{List, [], _∷_, _++_}
 use native.Mathlib.Omega.{arith}
 use borrow.Author.Tests.{ne-eqb}
 use lib.ListN.{length, length-append}
 use Rattle.definition.specs.Text.{gather}
-use Rattle.definition.specs.Syntax.{Term, name, string, anything, Expression, atom, truth, falsity, compare, matching, negation, conjunction, disjunction, implication, equivalence, exists, for-all, closure-of, compare-relations}
+use Rattle.definition.proofs.ListLaws.{gather-append}
+use Rattle.definition.specs.Syntax.{Term, name, string, anything, Expression, atom, truth, falsity, compare, matching, negation, conjunction, disjunction, implication, equivalence, exists, for-all, closure-of, compare-relations, literal, count-of, sum-of, ratio-of, compare-figures}
 use Rattle.definition.specs.Syntax as Syntax
-use Rattle.definition.specs.Syntax.{Item, rows, line-end}
+use Rattle.definition.specs.Syntax.{Item, rows, line-end, amount}
 use Rattle.definition.specs.Names.{closures, item-expressions}
-use Rattle.words.specs.Fields.{word, RELATION-NAME, ATTRIBUTE, TERM, WORD, ANYTHING, ATOM, TRUTH, FALSITY, ORDER, NEGATION, CONJUNCTION, DISJUNCTION, IMPLICATION, EQUIVALENCE, EXISTS, FOR-ALL, CLOSURE, COMPARISON, MATCH, ROWS, SAY, LINE-END, STRING}
+use Rattle.words.specs.Fields.{word, RELATION-NAME, ATTRIBUTE, TERM, WORD, ANYTHING, ATOM, TRUTH, FALSITY, ORDER, NEGATION, CONJUNCTION, DISJUNCTION, IMPLICATION, EQUIVALENCE, EXISTS, FOR-ALL, CLOSURE, COMPARISON, MATCH, COUNT, LITERAL, SUM, RATIO, FIGURES, AMOUNT, ROWS, SAY, LINE-END, STRING}
 use Rattle.words.specs.Raw.{number, sign-number, leaves, size, flat, size-item, flat-item, flat-items}
 use Rattle.words.proofs.FieldLaws.{kind-word}
 use Rattle.slots.specs.Slots.{one-closure, closure-count}
@@ -76,16 +77,16 @@ count-expression (exists x e) n = skip ATTRIBUTE _ 0 0 _ (omega arith) (λ e. om
 count-expression (for-all x e) n = skip ATTRIBUTE _ 0 0 _ (omega arith) (λ e. omega arith) (last (flat e (n + 1)) FOR-ALL _ _ 0 (omega arith) (λ e. omega arith) (count-expression e (n + 1)))
 count-expression (closure-of e) n = closure-last (flat e n) _ (count-expression e n)
 count-expression (compare-relations g a b) n = two-last _ _ COMPARISON _ _ (sign-number g) (omega arith) (λ e. omega arith) (count-expression a n) (count-expression b (n + size a)) ∙ both a b refl refl
+count-expression (literal t) n = skip LITERAL _ 0 0 [] (omega arith) (λ e. omega arith) count-nil
+count-expression (count-of e) n = last (flat e n) COUNT _ 0 0 (omega arith) (λ e. omega arith) (count-expression e n)
+count-expression (sum-of a b) n = two-last _ _ SUM _ _ 0 (omega arith) (λ e. omega arith) (count-expression a n) (count-expression b (n + size a)) ∙ both a b refl refl
+count-expression (ratio-of a b) n = two-last _ _ RATIO _ _ 0 (omega arith) (λ e. omega arith) (count-expression a n) (count-expression b (n + size a)) ∙ both a b refl refl
+count-expression (compare-figures g a b) n = two-last _ _ FIGURES _ _ (sign-number g) (omega arith) (λ e. omega arith) (count-expression a n) (count-expression b (n + size a)) ∙ both a b refl refl
 
 -- the words of an assignment before its own, and those of a PRINT's items
 pub count-assign : (p q : ℕ) (ps : List Term) (e : Expression) (n : ℕ) → closure-count (word RELATION-NAME p q 0 ∷ (leaves ATTRIBUTE ps ++ flat e n)) ≡ length (closures e)
 count-assign p q ps e n =
     skip RELATION-NAME p q 0 _ (omega arith) (λ e. omega arith) (count-append (leaves ATTRIBUTE ps) (flat e n) ∙ omega (arith, count-leaves ATTRIBUTE ps (omega arith), count-expression e n))
-
-gather-append : (xs ys : List Expression) → gather closures (xs ++ ys) ≡ gather closures xs ++ gather closures ys
-unfolding gather
-gather-append [] ys = refl
-gather-append (x ∷ xs) ys = rw (gather-append xs ys) (sym (append-assoc (closures x) (gather closures xs) (gather closures ys)))
 
 one-item : (i : Item) (n : ℕ) → closure-count (flat-item i n) ≡ length (gather closures (item-expressions i))
 unfolding flat-item gather
@@ -94,10 +95,11 @@ one-item (rows ps e) n =
     ∙ omega (arith, length-append (closures e) [])
 one-item (Syntax.word p) n = unfold leaves in last (leaves WORD (p ∷ [])) SAY _ 0 0 (omega arith) (λ e. omega arith) (count-leaves WORD (p ∷ []) (omega arith))
 one-item line-end n = skip LINE-END 0 0 0 [] (omega arith) (λ e. omega arith) count-nil
+one-item (amount e) n = last (flat e n) AMOUNT _ 0 0 (omega arith) (λ e. omega arith) (count-expression e n) ∙ omega (arith, length-append (closures e) [])
 
 pub count-items : (is : List Item) (n : ℕ) → closure-count (flat-items is n) ≡ length (gather closures (gather item-expressions is))
 unfolding flat-items gather
 count-items [] n = count-nil
 count-items (i ∷ is) n =
     count-append (flat-item i n) _
-    ∙ omega (arith, one-item i n, count-items is (n + size-item i), ap length (gather-append (item-expressions i) (gather item-expressions is)), length-append (gather closures (item-expressions i)) (gather closures (gather item-expressions is)))
+    ∙ omega (arith, one-item i n, count-items is (n + size-item i), ap length (gather-append closures (item-expressions i) (gather item-expressions is)), length-append (gather closures (item-expressions i)) (gather closures (gather item-expressions is)))

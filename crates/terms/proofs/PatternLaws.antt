@@ -13,7 +13,7 @@ use Rattle.definition.specs.Syntax.{says}
 use Rattle.definition.specs.Token.{Token, token-at, LPAREN, RPAREN}
 use Rattle.terms.proofs.AtomLaws.{refused}
 use Rattle.terms.proofs.LeafLaws.{a-term, no-term, leaf-within}
-use Rattle.terms.proofs.TokenLaws.{kind-within, key-then, at-first, string-then, string-number, not-key, not-string}
+use Rattle.terms.proofs.TokenLaws.{kind-within, key-then, mark-first, string-then, string-number, not-key, not-string}
 use Rattle.terms.proofs.WriteLaws.{wrote-as}
 use Rattle.terms.specs.declared.Answer.the-variants.{Read, Refused}
 use Rattle.terms.specs.Phrases.{kind-in, seen, IsPrimary}
@@ -32,7 +32,7 @@ pattern-words ts s n x a e f =
 
 module _ (ws : List ℕ) (p n : ℕ) (A : List ℕ) (t : kind-in ws p ≡ 49) where
   pattern-fails : (q d : ℕ) → q ≤ length ws → d ≤ 32 → Fails d (any-string ∷ fixed LPAREN ∷ phrase Term ∷ fixed RPAREN ∷ []) (drop (p + 1) (seen ws)) 10 (drop q (seen ws)) → {B : List ℕ} → IsPrimary ws p n d A B (Refused 10 q)
-  pattern-fails q d h l f = refused h (fail! pattern-rule l (at-first ws p t) f)
+  pattern-fails q d h l f = refused h (fail! pattern-rule l (mark-first ws p t (omega arith) (omega arith)) f)
 
   pub pattern-missing : (kind-in ws (p + 1) ≡ 48 → ⊥) → {B : List ℕ} → (d : ℕ) → d ≤ 32 → IsPrimary ws p n d A B (Refused 10 (p + 1))
   pattern-missing f d l = let i = kind-within ws p (omega arith) in pattern-fails (p + 1) d (omega arith) l (stop! (no-string! (not-string ws (p + 1) f)))
@@ -65,7 +65,7 @@ module _ (ws : List ℕ) (p n : ℕ) (A : List ℕ) (t : kind-in ws p ≡ 49) wh
               bounds = record { more = omega arith; paid = omega arith; within = omega arith };
               at = λ ts o. record {
                 tree = pattern-atom (p + 1) ((a-term ws (p + 3) f) .tree);
-                reads = read! pattern-rule l (at-first ws p t) (spelled d l ▸ opened d l ▸ one d l ▸ token! l (key-then ws (p + 4) (p + 5) (omega arith) k (omega arith)) ▸ done!);
+                reads = read! pattern-rule l (mark-first ws p t (omega arith) (omega arith)) (spelled d l ▸ opened d l ▸ one d l ▸ token! l (key-then ws (p + 4) (p + 5) (omega arith) k (omega arith)) ▸ done!);
                 wrote = wrote-as (pattern-words ts (p + 1) n (leaf-in ws (p + 3) TERM) ((a-term ws (p + 3) f) .tree) (string-number o (p + 1) s) ((a-term ws (p + 3) f) .said ts o)) (record { is = x; many = refl });
               };
             }

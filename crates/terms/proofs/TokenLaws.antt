@@ -1,18 +1,21 @@
 -- What the kind of a token says of what the grammar sees from there on.
 use mathlib.Core.List.{List, [], _∷_, map}
 use mathlib.Core.Bool.{Bool, true, false}
-use mathlib.Core.Path.{_≡_, refl, ap, sym, subst, _∙_}
+use mathlib.Core.Path.{_≡_, refl, ap, sym, _∙_}
 use native.Mathlib.Omega.{arith}
 use Prim.Native.Nat.{ℕ, zero, suc, _+_, _≤_, _<_}
 use lib.Dec.{eqb, ltb}
 use lib.ListN.{length, drop, getD}
 use borrow.Author.Tests.{ne-eqb, lt-ltb, le-ltb, ltb-true, ltb-false, eqb-true, eqb-false}
-use Rattle.definition.proofs.GrammarReads.{Next, nothing, a-name, a-string, a-sign, a-key, next}
+use Rattle.definition.proofs.GrammarReads.{Next, nothing, a-name, a-string, a-number, a-sign, a-key, next}
+use Rattle.definition.proofs.GrammarExpressions.{begins-quantity, not-quantity}
 use Rattle.definition.specs.Text.{if_then_else_}
+use Rattle.definition.specs.Token as Token
 use Rattle.definition.specs.Token.{Sign, equal, unequal, less, at-most, greater, at-least, Terminal, name, string, sign, key, Token, terminals, token-at}
 use Rattle.terms.specs.declared.Answer.{Answer}
 use Rattle.terms.specs.declared.Answer.the-variants.{Read, Refused}
-use Rattle.terms.specs.Phrases.{kind-in, usual, seen, closed, Holds}
+use Rattle.terms.specs.Phrases.{kind-in, seen, closed, Holds}
+use Rattle.terms.specs.Terms.{FirstOfQuantity, a-count, a-literal, a-large-literal, NoQuantity}
 use Rattle.words.specs.Raw.{number, sign-number}
 use Rattle.lexer.specs.Tokens.{terminal-of, terminals-of, sign-of, kind-of, at-of}
 
@@ -22,24 +25,11 @@ kind-past [] p h = refl
 kind-past (w ∷ ws) zero h = absurd (omega arith)
 kind-past (w ∷ ws) (suc p) h = kind-past ws p (omega arith)
 
-pub kind-here : (ws : List ℕ) (p : ℕ) → p < length ws → kind-in ws p ≡ usual (kind-of (getD ws p 0))
+pub kind-here : (ws : List ℕ) (p : ℕ) → p < length ws → kind-in ws p ≡ kind-of (getD ws p 0)
 unfolding kind-in
 kind-here [] p h = absurd (omega arith)
 kind-here (w ∷ ws) zero h = refl
 kind-here (w ∷ ws) (suc p) h = kind-here ws p (omega arith)
-
-pub kind-low : (ws : List ℕ) (p : ℕ) → p < length ws → kind-of (getD ws p 0) < 50 → kind-of (getD ws p 0) ≡ kind-in ws p
-kind-low ws p h i = sym (kind-here ws p h ∙ ap (λ b. if b then (kind-of (getD ws p 0)) else 46) (lt-ltb (kind-of (getD ws p 0)) 50 i))
-
-pub kind-high : (ws : List ℕ) (p : ℕ) → p < length ws → 50 ≤ kind-of (getD ws p 0) → 46 ≡ kind-in ws p
-kind-high ws p h i = sym (kind-here ws p h ∙ ap (λ b. if b then (kind-of (getD ws p 0)) else 46) (le-ltb (kind-of (getD ws p 0)) 50 i))
-
-usual-small : (k : ℕ) → usual k ≤ 49
-usual-small k = at (ltb k 50) refl
-  where
-    at : (b : Bool) → ltb k 50 ≡ b → (if b then k else 46) ≤ 49
-    at true e = let h = ltb-true k 50 e in omega arith
-    at false e = omega arith
 
 -- a kind that is one of a token
 pub kind-within : (ws : List ℕ) (p : ℕ) → kind-in ws p < 64 → p < length ws
@@ -48,8 +38,8 @@ kind-within [] p h = absurd (omega arith)
 kind-within (w ∷ ws) zero h = omega arith
 kind-within (w ∷ ws) (suc p) h = let i = kind-within ws p h in omega arith
 
-pub kind-small : (ws : List ℕ) (p : ℕ) → p < length ws → kind-in ws p ≤ 49
-kind-small ws p h = subst (λ k. k ≤ 49) (sym (kind-here ws p h)) (usual-small (kind-of (getD ws p 0)))
+kind-small : (ws : List ℕ) (p : ℕ) → p < length ws → kind-in ws p < 64
+kind-small ws p h = omega (arith, kind-here ws p h)
 
 -- the terminals of the kinds
 pub key-terminal : (k i : ℕ) → k < 41 → terminal-of k i ≡ key k
@@ -64,31 +54,27 @@ pub string-terminal : (i : ℕ) → terminal-of 48 i ≡ string i
 unfolding terminal-of
 string-terminal i = refl
 
-pub at-terminal : (i : ℕ) → terminal-of 49 i ≡ key 49
+pub number-terminal : (i : ℕ) → terminal-of 53 i ≡ Token.number false i
 unfolding terminal-of
-at-terminal i = refl
+number-terminal i = refl
 
-pub sign-terminal : (k i : ℕ) → 41 ≤ k → (k ≡ 47 → ⊥) → (k ≡ 48 → ⊥) → (k ≡ 49 → ⊥) → terminal-of k i ≡ sign (sign-of k)
+pub large-terminal : (i : ℕ) → terminal-of 54 i ≡ Token.number true i
 unfolding terminal-of
-sign-terminal k i h a b c = simp (le-ltb k 41 h, ne-eqb k 47 a, ne-eqb k 48 b, ne-eqb k 49 c)
+large-terminal i = refl
 
-big-sign : (k : ℕ) → 46 ≤ k → sign-of k ≡ at-least
-unfolding sign-of
-big-sign k h = simp (ne-eqb k 41 (λ e. omega arith), ne-eqb k 42 (λ e. omega arith), ne-eqb k 43 (λ e. omega arith), ne-eqb k 44 (λ e. omega arith), ne-eqb k 45 (λ e. omega arith))
+-- the keys behind the strings
+pub mark-terminal : (k i : ℕ) → 48 < k → (k ≡ 53 → ⊥) → (k ≡ 54 → ⊥) → terminal-of k i ≡ key k
+unfolding terminal-of
+mark-terminal k i h a b = simp (le-ltb k 41 (omega arith), ne-eqb k 47 (λ e. omega arith), ne-eqb k 48 (λ e. omega arith), ne-eqb k 53 a, ne-eqb k 54 b, lt-ltb 48 k h)
 
-usual-terminal : (k i : ℕ) → terminal-of k i ≡ terminal-of (usual k) i
-usual-terminal k i = at (ltb k 50) refl
-  where
-    at : (b : Bool) → ltb k 50 ≡ b → terminal-of k i ≡ terminal-of (if b then k else 46) i
-    at true e = refl
-    at false e =
-        let h = ltb-false k 50 e in
-        sign-terminal k i (omega arith) (λ i. omega arith) (λ i. omega arith) (λ i. omega arith) ∙ ap sign (big-sign k (omega arith)) ∙ sym (sign-terminal 46 i (omega arith) (λ i. omega arith) (λ i. omega arith) (λ i. omega arith) ∙ ap sign (big-sign 46 (omega arith)))
+pub sign-terminal : (k i : ℕ) → 41 ≤ k → k ≤ 46 → terminal-of k i ≡ sign (sign-of k)
+unfolding terminal-of
+sign-terminal k i h a = simp (le-ltb k 41 h, ne-eqb k 47 (λ e. omega arith), ne-eqb k 48 (λ e. omega arith), ne-eqb k 53 (λ e. omega arith), ne-eqb k 54 (λ e. omega arith), le-ltb 48 k (omega arith))
 
 first-from : (ws : List ℕ) (p i : ℕ) → p < length ws → drop p (terminals-of i ws) ≡ terminal-of (kind-in ws p) (p + i) ∷ drop (suc p) (terminals-of i ws)
 unfolding kind-in terminals-of
 first-from [] p i h = absurd (omega arith)
-first-from (w ∷ ws) zero i h = let e : i ≡ 0 + i = omega arith in ap (λ t. t ∷ terminals-of (suc i) ws) (usual-terminal (kind-of w) i ∙ ap (terminal-of (usual (kind-of w))) e)
+first-from (w ∷ ws) zero i h = let e : i ≡ 0 + i = omega arith in ap (λ j. terminal-of (kind-of w) j ∷ terminals-of (suc i) ws) e
 first-from (w ∷ ws) (suc p) i h = let e : p + suc i ≡ suc p + i = omega arith in first-from ws p (suc i) (omega arith) ∙ ap (λ j. terminal-of (kind-in ws p) j ∷ drop (suc p) (terminals-of (suc i) ws)) e
 
 -- the token at p stands first of what is seen from p on
@@ -118,11 +104,17 @@ module _ (ws : List ℕ) (p : ℕ) where
   pub string-then : (r : ℕ) → p + 1 ≡ r → kind-in ws p ≡ 48 → drop p (seen ws) ≡ string p ∷ drop r (seen ws)
   string-then r i e = string-first e ∙ ap (λ j. string p ∷ drop j (seen ws)) i
 
-  pub at-first : kind-in ws p ≡ 49 → drop p (seen ws) ≡ key 49 ∷ drop (p + 1) (seen ws)
-  at-first e = at-kind 49 e (omega arith) ∙ ap (λ t. t ∷ drop (p + 1) (seen ws)) (at-terminal p)
+  pub mark-first : {k : ℕ} → kind-in ws p ≡ k → 48 < k → k < 53 → drop p (seen ws) ≡ key k ∷ drop (p + 1) (seen ws)
+  mark-first {k} e h i = at-kind k e (omega arith) ∙ ap (λ t. t ∷ drop (p + 1) (seen ws)) (mark-terminal k p h (λ j. omega arith) (λ j. omega arith))
+
+  pub number-first : kind-in ws p ≡ 53 → drop p (seen ws) ≡ Token.number false p ∷ drop (p + 1) (seen ws)
+  number-first e = at-kind 53 e (omega arith) ∙ ap (λ t. t ∷ drop (p + 1) (seen ws)) (number-terminal p)
+
+  pub large-first : kind-in ws p ≡ 54 → drop p (seen ws) ≡ Token.number true p ∷ drop (p + 1) (seen ws)
+  large-first e = at-kind 54 e (omega arith) ∙ ap (λ t. t ∷ drop (p + 1) (seen ws)) (large-terminal p)
 
   pub sign-first : 41 ≤ kind-in ws p → kind-in ws p ≤ 46 → drop p (seen ws) ≡ sign (sign-of (kind-in ws p)) ∷ drop (p + 1) (seen ws)
-  sign-first h i = at-kind (kind-in ws p) refl (omega arith) ∙ ap (λ t. t ∷ drop (p + 1) (seen ws)) (sign-terminal (kind-in ws p) p h (λ e. omega arith) (λ e. omega arith) (λ e. omega arith))
+  sign-first h i = at-kind (kind-in ws p) refl (omega arith) ∙ ap (λ t. t ∷ drop (p + 1) (seen ws)) (sign-terminal (kind-in ws p) p h i)
 
 -- the number of a sign among the six
 pub sign-code : (k : ℕ) → 41 ≤ k → k ≤ 46 → sign-number (sign-of k) + 41 ≡ k
@@ -152,20 +144,28 @@ abbrev code : Next → ℕ
 code nothing = 64
 code a-name = 47
 code a-string = 48
+code (a-number false) = 53
+code (a-number true) = 54
 code (a-sign g) = sign-number g + 41
 code (a-key k) = k
 
-code-of : (k i : ℕ) (l : List Terminal) → k ≤ 49 → code (next (terminal-of k i ∷ l)) ≡ k
-code-of k i l h = at (ltb k 41) refl (eqb k 47) refl (eqb k 48) refl (eqb k 49) refl
+code-of : (k i : ℕ) (l : List Terminal) → code (next (terminal-of k i ∷ l)) ≡ k
+code-of k i l = at (ltb k 41) refl (eqb k 47) refl (eqb k 48) refl (eqb k 53) refl (eqb k 54) refl (ltb 48 k) refl
   where
-    at : (a : Bool) → ltb k 41 ≡ a → (b : Bool) → eqb k 47 ≡ b → (c : Bool) → eqb k 48 ≡ c → (d : Bool) → eqb k 49 ≡ d → code (next (terminal-of k i ∷ l)) ≡ k
-    at true x b y c z d u = ap (λ t. code (next (t ∷ l))) (key-terminal k i (ltb-true k 41 x))
-    at false x true y c z d u = let e = eqb-true k 47 y in ap (λ t. code (next (t ∷ l))) (ap (λ j. terminal-of j i) e ∙ name-terminal i) ∙ sym e
-    at false x false y true z d u = let e = eqb-true k 48 z in ap (λ t. code (next (t ∷ l))) (ap (λ j. terminal-of j i) e ∙ string-terminal i) ∙ sym e
-    at false x false y false z true u = let e = eqb-true k 49 u in ap (λ t. code (next (t ∷ l))) (ap (λ j. terminal-of j i) e ∙ at-terminal i) ∙ sym e
-    at false x false y false z false u =
-        let g = ltb-false k 41 x in let m = eqb-false k 47 y in let n = eqb-false k 48 z in let o = eqb-false k 49 u in
-        ap (λ t. code (next (t ∷ l))) (sign-terminal k i g m n o) ∙ sign-code k g (omega arith)
+    is : {t : Terminal} → terminal-of k i ≡ t → code (next (terminal-of k i ∷ l)) ≡ code (next (t ∷ l))
+    is e = ap (λ t. code (next (t ∷ l))) e
+
+    at : (a : Bool) → ltb k 41 ≡ a → (b : Bool) → eqb k 47 ≡ b → (c : Bool) → eqb k 48 ≡ c → (d : Bool) → eqb k 53 ≡ d → (e : Bool) → eqb k 54 ≡ e → (f : Bool) → ltb 48 k ≡ f → code (next (terminal-of k i ∷ l)) ≡ k
+    at true x b y c z d u e v f w = is (key-terminal k i (ltb-true k 41 x))
+    at false x true y c z d u e v f w = let h = eqb-true k 47 y in is (ap (λ j. terminal-of j i) h ∙ name-terminal i) ∙ sym h
+    at false x false y true z d u e v f w = let h = eqb-true k 48 z in is (ap (λ j. terminal-of j i) h ∙ string-terminal i) ∙ sym h
+    at false x false y false z true u e v f w = let h = eqb-true k 53 u in is (ap (λ j. terminal-of j i) h ∙ number-terminal i) ∙ sym h
+    at false x false y false z false u true v f w = let h = eqb-true k 54 v in is (ap (λ j. terminal-of j i) h ∙ large-terminal i) ∙ sym h
+    at false x false y false z false u false v true w = is (mark-terminal k i (ltb-true 48 k w) (eqb-false k 53 u) (eqb-false k 54 v))
+    at false x false y false z false u false v false w =
+        let g = ltb-false k 41 x in let m = eqb-false k 47 y in let n = eqb-false k 48 z in let o = ltb-false 48 k w in
+        let h : k ≤ 46 = omega arith in
+        is (sign-terminal k i g h) ∙ sign-code k g h
 
 drop-past : (ws : List ℕ) (p i : ℕ) → length ws ≤ p → drop p (terminals-of i ws) ≡ []
 unfolding terminals-of
@@ -178,7 +178,7 @@ pub next-kind : (ws : List ℕ) (p : ℕ) → code (next (drop p (seen ws))) ≡
 next-kind ws p = at (ltb p (length ws)) refl
   where
     at : (b : Bool) → ltb p (length ws) ≡ b → code (next (drop p (seen ws))) ≡ kind-in ws p
-    at true e = let h = ltb-true p (length ws) e in ap (λ l. code (next l)) (first ws p h) ∙ code-of (kind-in ws p) p (drop (p + 1) (seen ws)) (kind-small ws p h)
+    at true e = let h = ltb-true p (length ws) e in ap (λ l. code (next l)) (first ws p h) ∙ code-of (kind-in ws p) p (drop (p + 1) (seen ws))
     at false e = let h = ltb-false p (length ws) e in ap (λ l. code (next l)) (drop-past ws p 0 h) ∙ sym (kind-past ws p h)
 
 module _ (ws : List ℕ) (p : ℕ) where
@@ -193,6 +193,19 @@ module _ (ws : List ℕ) (p : ℕ) where
 
   pub not-sign : (41 ≤ kind-in ws p → kind-in ws p ≤ 46 → ⊥) → (g : Sign) → next (drop p (seen ws)) ≡ a-sign g → ⊥
   not-sign h g e = let i : kind-in ws p ≡ sign-number g + 41 = sym (next-kind ws p) ∙ ap code e in h (omega (arith, sign-small g)) (omega (arith, sign-small g))
+
+  not-number : (kind-in ws p ≡ 53 → ⊥) → (kind-in ws p ≡ 54 → ⊥) → (o : Bool) → next (drop p (seen ws)) ≡ a-number o → ⊥
+  not-number h i false e = h (sym (next-kind ws p) ∙ ap code e)
+  not-number h i true e = i (sym (next-kind ws p) ∙ ap code e)
+
+  -- what begins a quantity, and what does not
+  pub begins-one : FirstOfQuantity (kind-in ws p) → begins-quantity (next (drop p (seen ws))) ≡ true
+  begins-one (a-count e) = ap (λ l. begins-quantity (next l)) (mark-first ws p e (omega arith) (omega arith))
+  begins-one (a-literal e) = ap (λ l. begins-quantity (next l)) (number-first ws p e)
+  begins-one (a-large-literal e) = ap (λ l. begins-quantity (next l)) (large-first ws p e)
+
+  pub begins-none : NoQuantity (kind-in ws p) → begins-quantity (next (drop p (seen ws))) ≡ false
+  begins-none h = not-quantity (next (drop p (seen ws))) (not-number (h .no-literal) (h .no-large-literal)) (not-key (h .no-count))
 
 -- the closing token is there or it is not
 pub closed-cases : (P : Answer → Type 0) (ws : List ℕ) (k q m : ℕ) → (kind-in ws q ≡ k → P (Read (q + 1) m)) → ((kind-in ws q ≡ k → ⊥) → P (Refused 10 q)) → P (closed ws k (Read q m))
@@ -215,6 +228,9 @@ module _ {ws : List ℕ} {ts : List Token} (h : Holds ws ts) (p : ℕ) where
 
   pub string-number : kind-in ws p ≡ 48 → number (token-at ts p) ≡ p
   string-number e = simp (terminal-at ts p (string p) _ (ap (drop p) (h .same) ∙ string-first ws p e))
+
+  pub literal-number : kind-in ws p ≡ 53 → number (token-at ts p) ≡ p
+  literal-number e = simp (terminal-at ts p (Token.number false p) _ (ap (drop p) (h .same) ∙ number-first ws p e))
 
   pub place-of : p < length ws → token-at ts p .at ≡ at-of (getD ws p 0)
   place-of l = by ts ws p l (h .places)

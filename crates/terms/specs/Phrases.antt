@@ -2,11 +2,11 @@
 use mathlib.Core.List.{List, [], _∷_, map}
 use mathlib.Core.Path.{_≡_}
 use Prim.Native.Nat.{ℕ, zero, suc, _+_, _≤_, _<_}
-use lib.Dec.{eqb, ltb}
+use lib.Dec.{eqb}
 use lib.ListN.{length, drop}
 use lib.Seq.{sets}
 use Rattle.definition.proofs.GrammarReads.{Reads, Fails}
-use Rattle.definition.specs.Grammar.{Nonterminal, Tree, Expression, Implication, Disjunction, Conjunction, Negation, Primary}
+use Rattle.definition.specs.Grammar.{Nonterminal, Tree, Expression, Implication, Disjunction, Conjunction, Negation, Primary, Quantity}
 use Rattle.definition.specs.Reader.{phrase}
 use Rattle.definition.specs.Syntax as Syntax
 use Rattle.definition.specs.Syntax.{says}
@@ -26,14 +26,10 @@ pub record Holds (ws : List ℕ) (ts : List Token) : Type 0 where
 abbrev pub seen : List ℕ → List Terminal
 seen ws = terminals-of 0 ws
 
--- a kind that there is none of counts as the last sign
-abbrev pub usual : ℕ → ℕ
-usual k = if ltb k 50 then k else 46
-
 -- the kind of the token at p; 64 past the last
 unfoldable pub kind-in : List ℕ → ℕ → ℕ
 kind-in [] p = 64
-kind-in (w ∷ ws) zero = usual (kind-of w)
+kind-in (w ∷ ws) zero = kind-of w
 kind-in (w ∷ ws) (suc p) = kind-in ws p
 
 -- after the closing token, of kind k
@@ -101,3 +97,6 @@ IsNegation = Parsed Negation (λ ts t. says ts t)
 
 abbrev pub IsPrimary : List ℕ → ℕ → ℕ → ℕ → List ℕ → List ℕ → Answer → Type 0
 IsPrimary = Parsed Primary (λ ts t. says ts t)
+
+abbrev pub IsQuantity : List ℕ → ℕ → ℕ → ℕ → List ℕ → List ℕ → Answer → Type 0
+IsQuantity = Parsed Quantity (λ ts t. says ts t)

@@ -1,17 +1,18 @@
 -- Terms, and lists of them in brackets.
+use mathlib.Core.Bool.{Bool, true, false}
 use mathlib.Core.List.{List, [], _∷_}
 use mathlib.Core.Path.{_≡_}
 use Prim.Native.Nat.{ℕ, _+_, _*_, _≤_, _<_}
 use lib.Dec.{eqb}
 use lib.ListN.{length}
 use Rattle.definition.specs.Text.{if_then_else_}
-use Rattle.definition.specs.Token.{UNDERSCORE, COMMA, LPAREN, RPAREN, EX, FA, TC, TCFAST, TRUE, FALSE}
+use Rattle.definition.specs.Token.{UNDERSCORE, COMMA, LPAREN, RPAREN, EX, FA, TC, TCFAST, TRUE, FALSE, HASH}
 use Rattle.terms.specs.declared.Answer.{Answer}
 use Rattle.terms.specs.declared.Answer.the-variants.{Read, Refused}
 use Rattle.terms.specs.Phrases.{kind-in, Wrote}
 use Rattle.words.specs.Fields as Fields
 use Rattle.words.specs.Fields.{word, TERM, ANYTHING, TRUTH, FALSITY}
-use Rattle.lexer.specs.Tokens.{NAME, STRING}
+use Rattle.lexer.specs.Tokens.{NAME, STRING, NUMBER, LARGE-NUMBER}
 
 -- the word of a term at token p of kind t, where a name is of kind k; 0 for none. "_" is a term of an expression alone
 unfoldable pub leaf-of : ℕ → ℕ → ℕ → ℕ
@@ -80,3 +81,18 @@ pub record Plain (k : ℕ) : Type 0 where
   pub fa : k ≡ FA → ⊥
   pub tc : k ≡ TC → ⊥
   pub tcfast : k ≡ TCFAST → ⊥
+
+-- the kinds of tokens that begin a quantity
+pub data FirstOfQuantity (k : ℕ) : Type 0 where
+  a-count : k ≡ HASH → FirstOfQuantity k
+  a-literal : k ≡ NUMBER → FirstOfQuantity k
+  a-large-literal : k ≡ LARGE-NUMBER → FirstOfQuantity k
+
+pub record NoQuantity (k : ℕ) : Type 0 where
+  pub no-count : k ≡ HASH → ⊥
+  pub no-literal : k ≡ NUMBER → ⊥
+  pub no-large-literal : k ≡ LARGE-NUMBER → ⊥
+
+abbrev pub OfQuantity : ℕ → Bool → Type 0
+OfQuantity k true = FirstOfQuantity k
+OfQuantity k false = NoQuantity k

@@ -6,7 +6,7 @@ ghost use Prim.Native.Nat.{ℕ, _+_, _-_, _<_, _≤_};
 ghost use lib.ListN.{length};
 ghost use lib.Seq.{sets};
 ghost use Rattle.terms.specs.Phrases.{kind-in, closed, Room, IsPrimary};
-ghost use Rattle.terms.specs.Terms.{leaf-in, IsListed, Truth, IsSign, Plain};
+ghost use Rattle.terms.specs.Terms.{leaf-in, IsListed, Truth, IsSign, Plain, OfQuantity};
 ghost use Rattle.words.specs.Fields.{word};
 use words::pack;
 
@@ -23,8 +23,19 @@ pub fn kind_at(tokens: &[u64], p: usize) -> u64
     if p >= tokens.len() {
         return 64;
     }
-    let k = tokens[p] % 64;
-    if k < 50 { k } else { 46 }
+    tokens[p] % 64
+}
+
+// Whether a quantity begins at p: "#" or a number.
+pub fn begins_quantity(tokens: &[u64], p: usize) -> bool
+    ensures { λ r. ⌜ OfQuantity (kind-in (now (tokens .entry)) p) r ⌝ }
+{
+    match kind_at(tokens, p) {
+        50 => true,
+        53 => true,
+        54 => true,
+        _ => false,
+    }
 }
 
 // After what stands in brackets: the closing one, a token of the given kind.

@@ -4,3 +4,4 @@ pub mod RunLaws
 pub mod WordTable
 pub mod NameLaws
 pub mod QuoteLaws
+pub mod ValueLaws

@@ -7,8 +7,8 @@ use native.Mathlib.Numerals.{add-one}
 use native.Mathlib.Omega.{arith}
 use borrow.Author.Tests.{lt-ltb}
 use lib.Dec.{ltb, leb·suc-suc}
-use lib.ListN.{length, getD, drop, drop-of-length-le}
-use lib.Seq.{drop-cons}
+use lib.ListN.{length, getD, take, drop, drop-of-length-le}
+use lib.Seq.{drop-cons, length-take-le}
 use Rattle.definition.specs.Text.{Text, span, some-of, all-of}
 
 module _ (p : ℕ → Bool) where
@@ -32,6 +32,9 @@ module _ (p : ℕ → Bool) where
       go : (b : Bool) → span p xs ≤ length xs → cond b (suc (span p xs)) 0 ≤ suc (length xs)
       go true h = omega arith
       go false h = omega arith
+
+  pub run-length : (s : Text) → length (take (span p s) s) ≡ span p s
+  run-length s = length-take-le (span p s) s (span-within s)
 
   -- all bytes pass if the run is all there is
   pub all-span : (s : Text) → span p s ≡ length s → all-of p s ≡ true

@@ -1,11 +1,11 @@
-// Texts as slices of bytes: their order and equality, the classes of bytes, the reserved words, names.
+// Texts as slices of bytes: their order and equality, the classes of bytes, the reserved words, names, the value of digits.
 ghost use mathlib.Core.Path.{_≡_};
 ghost use mathlib.Core.Bool.{true, false};
 ghost use mathlib.Core.List.{[], _∷_};
-ghost use Prim.Native.Nat.{ℕ, _+_, _≤_, _<_};
+ghost use Prim.Native.Nat.{ℕ, _+_, _-_, _*_, _≤_, _<_, min};
 ghost use lib.ListN.{length, drop};
 ghost use Rattle.definition.specs.Text.{same, starts, span, member, reserved, is-letter, is-part, is-legal, is-blank, needs-quotes, is-name, between};
-ghost use Rattle.definition.specs.Token.{word-terminal, FIRST-WORD};
+ghost use Rattle.definition.specs.Token.{word-terminal, FIRST-WORD, value};
 ghost use Rattle.texts.specs.Orders.{order};
 ghost use Rattle.texts.specs.Classes.{is-of};
 ghost use Rattle.texts.specs.Words.{is-reserved, terminal-of, index-of};
@@ -78,6 +78,7 @@ pub enum Class {
     NoEnd,
     InString,
     Bare,
+    Digit,
 }
 
 // "spaces or tabs"
@@ -160,6 +161,7 @@ pub fn of_class(b: u8, k: Class) -> bool
             }
             !is_blank(b)
         }
+        Class::Digit => is_between(48, 57, b),
     }
 }
 
@@ -290,4 +292,36 @@ pub fn is_name(w: &[u8]) -> bool
         Word::Reserved(_) => false,
         Word::Identifier => true,
     }
+}
+
+// The value of a digit.
+fn digit(b: u8) -> u64
+    ensures { λ r. ⌜ r ≡ b - 48 ⌝ }
+{
+    if b < 48 {
+        return 0;
+    }
+    b as u64 - 48
+}
+
+// The value of digits that begin with value v and end with the digit b, 1,000,000 where it is larger.
+fn with_digit(v: u64, b: u8) -> u64
+    requires { ⌜ v ≤ 1_000_000 ⌝ }
+    ensures { λ r. ⌜ r ≡ min (10 * v + (b - 48)) 1_000_000 ⌝ }
+{
+    let n = 10 * v + digit(b);
+    if n < 1_000_000 { n } else { 1_000_000 }
+}
+
+// The value of a run of digits, 1,000,000 where it is larger: no literal that large is taken.
+pub fn value(s: &[u8]) -> u64
+    ensures { λ r. ⌜ r ≡ min (value (now (s .entry))) 1_000_000 ⌝ }
+{
+    let mut v: u64 = 0;
+    let mut i = 0;
+    while i < s.len() {
+        v = with_digit(v, s[i]);
+        i += 1;
+    }
+    v
 }

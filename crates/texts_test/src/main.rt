@@ -1,9 +1,10 @@
 // Texts at the edges of the rules: each check is proved from the contracts, and run.
-ghost use Prim.Native.Nat.{_+_, _≤_};
+ghost use Prim.Native.Nat.{_+_, _≤_, min};
 ghost use mathlib.Core.Path.{_≡_};
 ghost use lib.ListN.{length, drop};
 ghost use Rattle.definition.specs.Text.{span, needs-quotes, is-name};
 ghost use Rattle.definition.specs.Text.{same as Text·same};
+ghost use Rattle.definition.specs.Token.{value};
 ghost use Rattle.texts.specs.Classes.{is-of};
 ghost use Rattle.texts.specs.Orders.{order};
 ghost use Rattle.texts_test.specs.Ranks.{rank-of};
@@ -15,6 +16,7 @@ use texts::is_name;
 use texts::needs_quotes;
 use texts::run_end;
 use texts::same;
+use texts::value;
 
 // The order as a number.
 fn rank(o: Order) -> usize
@@ -56,6 +58,13 @@ fn names(text: &[u8], named: bool)
     expect(is_name(text) == named);
 }
 
+// The value of a run of digits, up to 1,000,000.
+fn valued(text: &[u8], n: u64)
+    requires { ⌜ min (value (now text)) 1_000_000 ≡ n ⌝ }
+{
+    expect(value(text) == n);
+}
+
 // "a prefix first"
 fn orders() {
     ordered(b"On", b"Onto", 0, false);
@@ -67,6 +76,7 @@ fn runs() {
     ends(b"On C10", 0, Class::Part, 2);
     ends(b"On \t C10", 2, Class::Blank, 5);
     ends(b"C10", 3, Class::Inside, 3);
+    ends(b"C10a", 1, Class::Digit, 3);
 }
 
 // "if it is empty or holds a space or tab"
@@ -87,9 +97,19 @@ fn identifiers() {
     names(b"2a", false);
 }
 
+// "literals to 999,999"
+fn numerals() {
+    valued(b"", 0);
+    valued(b"007", 7);
+    valued(b"999999", 999_999);
+    valued(b"1000000", 1_000_000);
+    valued(b"12345678901234567890123456789012", 1_000_000);
+}
+
 fn main() {
     orders();
     runs();
     quotes();
     identifiers();
+    numerals();
 }

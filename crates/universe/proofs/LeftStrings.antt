@@ -9,11 +9,11 @@ use lib.ListN.{length, getD, take, drop}
 use Rattle.definition.specs.Text.{Text}
 use Rattle.definition.specs.Token.{Token}
 use Rattle.definition.specs.Facts.{Element}
-use Rattle.definition.specs.Syntax.{Term, name, string, anything, Expression, atom, truth, falsity, compare, matching, negation, conjunction, disjunction, implication, equivalence, exists, for-all, closure-of, compare-relations}
+use Rattle.definition.specs.Syntax.{Term, name, string, anything, Expression, atom, truth, falsity, compare, matching, negation, conjunction, disjunction, implication, equivalence, exists, for-all, closure-of, compare-relations, literal, count-of, sum-of, ratio-of, compare-figures}
 use Rattle.definition.specs.Syntax as Syntax
-use Rattle.definition.specs.Syntax.{Item, rows, line-end, Program, end, assign, print, test, while, for, block}
+use Rattle.definition.specs.Syntax.{Item, rows, line-end, amount, Program, end, assign, print, test, while, for, block}
 use Rattle.definition.specs.Names.{strings, left-strings}
-use Rattle.words.specs.Fields.{word, kind-of, p-of, RELATION-NAME, ATTRIBUTE, TERM, WORD, BIND, RANGE, NEXT, ANYTHING, ATOM, TRUTH, FALSITY, ORDER, NEGATION, CONJUNCTION, DISJUNCTION, IMPLICATION, EQUIVALENCE, EXISTS, FOR-ALL, CLOSURE, COMPARISON, MATCH, ROWS, SAY, LINE-END, ASSIGN, TEST, JUMP, AGAIN, PRINT, STRING}
+use Rattle.words.specs.Fields.{word, kind-of, p-of, RELATION-NAME, ATTRIBUTE, TERM, WORD, BIND, RANGE, NEXT, ANYTHING, ATOM, TRUTH, FALSITY, ORDER, NEGATION, CONJUNCTION, DISJUNCTION, IMPLICATION, EQUIVALENCE, EXISTS, FOR-ALL, CLOSURE, COMPARISON, MATCH, COUNT, LITERAL, SUM, RATIO, FIGURES, AMOUNT, ROWS, SAY, LINE-END, ASSIGN, TEST, JUMP, AGAIN, PRINT, STRING}
 use Rattle.words.specs.Raw.{number, leaves, size, flat, flat-item, size-items, flat-items, size-program, flat-program}
 use Rattle.words.specs.Tokens.{OwnString, OwnTerms, OwnProgram}
 use Rattle.words.proofs.FieldLaws.{kind-word, p-word}
@@ -100,6 +100,11 @@ module _ (query : Text) (tokens : List ℕ) where
   expression (for-all x e) n = skip ATTRIBUTE _ 0 0 (λ e. omega arith) (omega arith) (last FOR-ALL n _ 0 (λ e. omega arith) (omega arith) (expression e (n + 1)))
   expression (closure-of e) n = last CLOSURE _ 0 0 (λ e. omega arith) (omega arith) (expression e n)
   expression (compare-relations g a b) n = two-last COMPARISON _ _ _ (λ e. omega arith) (omega arith) (expression a n) (expression b _)
+  expression (literal t) n = skip LITERAL _ 0 0 (λ e. omega arith) (omega arith) none
+  expression (count-of e) n = last COUNT _ 0 0 (λ e. omega arith) (omega arith) (expression e n)
+  expression (sum-of a b) n = two-last SUM _ _ 0 (λ e. omega arith) (omega arith) (expression a n) (expression b _)
+  expression (ratio-of a b) n = two-last RATIO _ _ 0 (λ e. omega arith) (omega arith) (expression a n) (expression b _)
+  expression (compare-figures g a b) n = two-last FIGURES _ _ _ (λ e. omega arith) (omega arith) (expression a n) (expression b _)
 
   words-of : (ps : List Term) → Lefts (leaves WORD ps) []
   words-of ps = no-lefts WORD ps (omega arith) (λ e. omega arith)
@@ -109,6 +114,7 @@ module _ (query : Text) (tokens : List ℕ) where
   item (rows ps e) n = both (words-of ps) (last ROWS n _ 0 (λ e. omega arith) (omega arith) (expression e (n + length ps)))
   item (Syntax.word p) n = unfold leaves in last SAY n 0 0 (λ e. omega arith) (omega arith) (words-of (p ∷ []))
   item line-end n = skip LINE-END 0 0 0 (λ e. omega arith) (omega arith) none
+  item (amount e) n = last AMOUNT n 0 0 (λ e. omega arith) (omega arith) (expression e n)
 
   items : (is : List Item) (n : ℕ) → Lefts (flat-items is n) []
   unfolding flat-items

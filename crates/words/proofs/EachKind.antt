@@ -7,10 +7,10 @@ use native.Mathlib.Omega.{arith}
 use borrow.Author.Tests.{eqb-true, eqb-false}
 use lib.Dec.{eqb}
 use lib.ListN.{length, getD}
-use Rattle.definition.specs.Syntax.{Term, name, string, anything, Expression, atom, truth, falsity, compare, matching, negation, conjunction, disjunction, implication, equivalence, exists, for-all, closure-of, compare-relations}
+use Rattle.definition.specs.Syntax.{Term, name, string, anything, Expression, atom, truth, falsity, compare, matching, negation, conjunction, disjunction, implication, equivalence, exists, for-all, closure-of, compare-relations, literal, count-of, sum-of, ratio-of, compare-figures}
 use Rattle.definition.specs.Syntax as Syntax
-use Rattle.definition.specs.Syntax.{Item, rows, line-end}
-use Rattle.words.specs.Fields.{word, kind-of, RELATION-NAME, ATTRIBUTE, TERM, WORD, ANYTHING, ATOM, TRUTH, FALSITY, ORDER, NEGATION, CONJUNCTION, DISJUNCTION, IMPLICATION, EQUIVALENCE, EXISTS, FOR-ALL, CLOSURE, COMPARISON, MATCH, ROWS, SAY, LINE-END, STRING}
+use Rattle.definition.specs.Syntax.{Item, rows, line-end, amount}
+use Rattle.words.specs.Fields.{word, kind-of, RELATION-NAME, ATTRIBUTE, TERM, WORD, ANYTHING, ATOM, TRUTH, FALSITY, ORDER, NEGATION, CONJUNCTION, DISJUNCTION, IMPLICATION, EQUIVALENCE, EXISTS, FOR-ALL, CLOSURE, COMPARISON, MATCH, COUNT, LITERAL, SUM, RATIO, FIGURES, AMOUNT, ROWS, SAY, LINE-END, STRING}
 use Rattle.words.specs.Raw.{number, sign-number, leaves, size, flat, size-item, flat-item, flat-items}
 use Rattle.words.specs.Standing.{Has}
 use Rattle.words.proofs.FieldLaws.{kind-word}
@@ -52,7 +52,7 @@ module _ (P : ℕ → Type 0) where
   -- names and strings, by what their place takes, and the kinds of "_" and of expressions
   pub record Inner : Type 0 where
     pub names : (k : ℕ) → 0 < k → k < 5 → P k × P (STRING + k)
-    pub nodes : (k : ℕ) → 9 ≤ k → k < 24 → P k
+    pub nodes : (k : ℕ) → 9 ≤ k → k < 29 → P k
 
   module _ (I : Inner) where
     pub each-leaves : (k : ℕ) (ps : List Term) → 0 < k → k < 5 → Each (leaves k ps)
@@ -66,10 +66,10 @@ module _ (P : ℕ → Type 0) where
     each-terms ps = each-leaves TERM ps (omega arith) (omega arith)
 
     -- a word after one or two operands
-    over-one : (xs : List ℕ) (k p q r : ℕ) → 9 ≤ k → k < 24 → Each xs → Each (xs ++ (word k p q r ∷ []))
+    over-one : (xs : List ℕ) (k p q r : ℕ) → 9 ≤ k → k < 29 → Each xs → Each (xs ++ (word k p q r ∷ []))
     over-one xs k p q r l h o = each-last xs k p q r (omega arith) (I .nodes k l h) o
 
-    over-two : (xs ys : List ℕ) (k p q r : ℕ) → 9 ≤ k → k < 24 → Each xs → Each ys → Each (xs ++ (ys ++ (word k p q r ∷ [])))
+    over-two : (xs ys : List ℕ) (k p q r : ℕ) → 9 ≤ k → k < 29 → Each xs → Each ys → Each (xs ++ (ys ++ (word k p q r ∷ [])))
     over-two xs ys k p q r l h o o′ = each-two xs ys k p q r (omega arith) (I .nodes k l h) o o′
 
     named : (k p q : ℕ) (ws : List ℕ) → 0 < k → k < 5 → Each ws → Each (word k p q 0 ∷ ws)
@@ -95,15 +95,21 @@ module _ (P : ℕ → Type 0) where
     each-expression (for-all x e) n = named ATTRIBUTE _ 0 _ (omega arith) (omega arith) (over-one (flat e (n + 1)) FOR-ALL _ _ 0 (omega arith) (omega arith) (each-expression e (n + 1)))
     each-expression (closure-of e) n = over-one (flat e n) CLOSURE _ 0 0 (omega arith) (omega arith) (each-expression e n)
     each-expression (compare-relations g a b) n = over-two _ _ COMPARISON _ _ (sign-number g) (omega arith) (omega arith) (each-expression a n) (each-expression b (n + size a))
+    each-expression (literal t) n = over-one [] LITERAL _ 0 0 (omega arith) (omega arith) each-none
+    each-expression (count-of e) n = over-one (flat e n) COUNT _ 0 0 (omega arith) (omega arith) (each-expression e n)
+    each-expression (sum-of a b) n = over-two _ _ SUM _ _ 0 (omega arith) (omega arith) (each-expression a n) (each-expression b (n + size a))
+    each-expression (ratio-of a b) n = over-two _ _ RATIO _ _ 0 (omega arith) (omega arith) (each-expression a n) (each-expression b (n + size a))
+    each-expression (compare-figures g a b) n = over-two _ _ FIGURES _ _ (sign-number g) (omega arith) (omega arith) (each-expression a n) (each-expression b (n + size a))
 
     -- items, where it holds of their own kinds too
-    module _ (items : (k : ℕ) → 30 ≤ k → k < 33 → P k) where
+    module _ (items : (k : ℕ) → 29 ≤ k → k < 33 → P k) where
       each-item : (i : Item) (n : ℕ) → Each (flat-item i n)
       unfolding flat-item
       each-item (rows ps e) n =
           each-two (leaves WORD ps) _ ROWS _ _ 0 (omega arith) (items ROWS (omega arith) (omega arith)) (each-leaves WORD ps (omega arith) (omega arith)) (each-expression e (n + length ps))
       each-item (Syntax.word p) n = unfold leaves in each-last (leaves WORD (p ∷ [])) SAY n 0 0 (omega arith) (items SAY (omega arith) (omega arith)) (each-leaves WORD (p ∷ []) (omega arith) (omega arith))
       each-item line-end n = each-cons LINE-END 0 0 0 [] (omega arith) (items LINE-END (omega arith) (omega arith)) each-none
+      each-item (amount e) n = each-last (flat e n) AMOUNT n 0 0 (omega arith) (items AMOUNT (omega arith) (omega arith)) (each-expression e n)
 
       pub each-items : (is : List Item) (n : ℕ) → Each (flat-items is n)
       unfolding flat-items

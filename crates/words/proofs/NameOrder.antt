@@ -6,11 +6,11 @@ use native.Mathlib.Omega.{arith}
 use lib.ListN.{length}
 use Rattle.definition.specs.Text.{gather}
 use Rattle.definition.specs.Token.{Token}
-use Rattle.definition.specs.Syntax.{Term, name, string, anything, Expression, atom, truth, falsity, compare, matching, negation, conjunction, disjunction, implication, equivalence, exists, for-all, closure-of, compare-relations}
+use Rattle.definition.specs.Syntax.{Term, name, string, anything, Expression, atom, truth, falsity, compare, matching, negation, conjunction, disjunction, implication, equivalence, exists, for-all, closure-of, compare-relations, literal, count-of, sum-of, ratio-of, compare-figures}
 use Rattle.definition.specs.Syntax as Syntax
-use Rattle.definition.specs.Syntax.{Item, rows, line-end, Program, end, assign, print, test, while, for, block}
+use Rattle.definition.specs.Syntax.{Item, rows, line-end, amount, Program, end, assign, print, test, while, for, block}
 use Rattle.definition.specs.Names.{Role, attribute-only, term, variable-only, Use, use-as, in-terms, in-expression, in-item, in-program}
-use Rattle.words.specs.Fields.{word, kind-of, RELATION-NAME, ATTRIBUTE, TERM, WORD, BIND, RANGE, NEXT, ANYTHING, ATOM, TRUTH, FALSITY, ORDER, NEGATION, CONJUNCTION, DISJUNCTION, IMPLICATION, EQUIVALENCE, EXISTS, FOR-ALL, CLOSURE, COMPARISON, MATCH, ROWS, SAY, LINE-END, ASSIGN, TEST, JUMP, AGAIN, PRINT, STRING}
+use Rattle.words.specs.Fields.{word, kind-of, RELATION-NAME, ATTRIBUTE, TERM, WORD, BIND, RANGE, NEXT, ANYTHING, ATOM, TRUTH, FALSITY, ORDER, NEGATION, CONJUNCTION, DISJUNCTION, IMPLICATION, EQUIVALENCE, EXISTS, FOR-ALL, CLOSURE, COMPARISON, MATCH, COUNT, LITERAL, SUM, RATIO, FIGURES, AMOUNT, ROWS, SAY, LINE-END, ASSIGN, TEST, JUMP, AGAIN, PRINT, STRING}
 use Rattle.words.specs.Raw.{number, sign-number, leaves, size, flat, size-item, flat-item, size-items, flat-items, size-program, flat-program}
 use Rattle.words.specs.Tokens.{OwnName, OwnTerms, OwnExpression, OwnItem, OwnItems, OwnProgram}
 use Rattle.words.specs.Shown.{role-of, Shows, none, other, named}
@@ -76,6 +76,12 @@ module _ (ts : List Token) (few : length ts < 65536) where
   expression-uses (closure-of e) n h o = last CLOSURE (n + size e - 1) 0 0 (omega arith) (omega arith) (expression-uses e n (omega arith) o)
   expression-uses (compare-relations g a b) n h o =
       two-last COMPARISON _ _ (sign-number g) (omega arith) (omega arith) (expression-uses a n (omega arith) (o .0)) (expression-uses b _ (omega arith) (o .1))
+  expression-uses (literal t) n h o = skip LITERAL (number t) 0 0 (omega arith) (omega arith) none
+  expression-uses (count-of e) n h o = last COUNT (n + size e - 1) 0 0 (omega arith) (omega arith) (expression-uses e n (omega arith) o)
+  expression-uses (sum-of a b) n h o = two-last SUM _ _ 0 (omega arith) (omega arith) (expression-uses a n (omega arith) (o .0)) (expression-uses b _ (omega arith) (o .1))
+  expression-uses (ratio-of a b) n h o = two-last RATIO _ _ 0 (omega arith) (omega arith) (expression-uses a n (omega arith) (o .0)) (expression-uses b _ (omega arith) (o .1))
+  expression-uses (compare-figures g a b) n h o =
+      two-last FIGURES _ _ (sign-number g) (omega arith) (omega arith) (expression-uses a n (omega arith) (o .0)) (expression-uses b _ (omega arith) (o .1))
 
   item-uses : (i : Item) (n : ℕ) → n + size-item i < 65536 → OwnItem ts i → Shows ts (flat-item i n) (in-item i)
   unfolding flat-item in-item size-item OwnItem role-of
@@ -84,6 +90,7 @@ module _ (ts : List Token) (few : length ts < 65536) where
       (last ROWS n (length ps) 0 (omega arith) (omega arith) (expression-uses e (n + length ps) (omega arith) (o .1)))
   item-uses (Syntax.word p) n h o = unfold leaves in last SAY n 0 0 (omega arith) (omega arith) (leaves-uses WORD variable-only (p ∷ []) (omega arith) (omega arith) refl o)
   item-uses line-end n h o = skip LINE-END 0 0 0 (omega arith) (omega arith) none
+  item-uses (amount e) n h o = last AMOUNT n 0 0 (omega arith) (omega arith) (expression-uses e n (omega arith) o)
 
   pub items-uses : (is : List Item) (n : ℕ) → n + size-items is < 65536 → OwnItems ts is → Shows ts (flat-items is n) (gather in-item is)
   unfolding flat-items gather size-items OwnItems

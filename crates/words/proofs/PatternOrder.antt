@@ -8,11 +8,11 @@ use borrow.Author.Tests.{ne-eqb}
 use lib.ListN.{length}
 use Rattle.definition.specs.Text.{gather}
 use Rattle.definition.specs.Token.{Token}
-use Rattle.definition.specs.Syntax.{Term, name, string, anything, Expression, atom, truth, falsity, compare, matching, negation, conjunction, disjunction, implication, equivalence, exists, for-all, closure-of, compare-relations}
+use Rattle.definition.specs.Syntax.{Term, name, string, anything, Expression, atom, truth, falsity, compare, matching, negation, conjunction, disjunction, implication, equivalence, exists, for-all, closure-of, compare-relations, literal, count-of, sum-of, ratio-of, compare-figures}
 use Rattle.definition.specs.Syntax as Syntax
-use Rattle.definition.specs.Syntax.{Item, rows, line-end, Program, end, assign, print, test, while, for, block}
+use Rattle.definition.specs.Syntax.{Item, rows, line-end, amount, Program, end, assign, print, test, while, for, block}
 use Rattle.definition.specs.Names.{patterns, item-patterns, program-patterns}
-use Rattle.words.specs.Fields.{word, RELATION-NAME, ATTRIBUTE, TERM, WORD, BIND, RANGE, NEXT, ANYTHING, ATOM, TRUTH, FALSITY, ORDER, NEGATION, CONJUNCTION, DISJUNCTION, IMPLICATION, EQUIVALENCE, EXISTS, FOR-ALL, CLOSURE, COMPARISON, MATCH, ROWS, SAY, LINE-END, ASSIGN, TEST, JUMP, AGAIN, PRINT, STRING}
+use Rattle.words.specs.Fields.{word, RELATION-NAME, ATTRIBUTE, TERM, WORD, BIND, RANGE, NEXT, ANYTHING, ATOM, TRUTH, FALSITY, ORDER, NEGATION, CONJUNCTION, DISJUNCTION, IMPLICATION, EQUIVALENCE, EXISTS, FOR-ALL, CLOSURE, COMPARISON, MATCH, COUNT, LITERAL, SUM, RATIO, FIGURES, AMOUNT, ROWS, SAY, LINE-END, ASSIGN, TEST, JUMP, AGAIN, PRINT, STRING}
 use Rattle.words.specs.Raw.{number, sign-number, leaves, flat, size-item, flat-item, flat-items, flat-program}
 use Rattle.words.specs.Tokens.{OwnExpression, OwnItem, OwnItems, OwnProgram}
 use Rattle.words.specs.ShownPatterns.{first-half, ShowsPatterns, none, other, shown}
@@ -81,12 +81,18 @@ module _ (ts : List Token) (few : length ts < 65536) where
   expression-patterns (closure-of e) n o = last CLOSURE _ 0 0 (omega arith) (λ e. omega arith) (expression-patterns e n o)
   expression-patterns (compare-relations g a b) n o =
       two-last COMPARISON _ _ (sign-number g) (omega arith) (λ e. omega arith) (expression-patterns a n (o .0)) (expression-patterns b _ (o .1))
+  expression-patterns (literal t) n o = skip LITERAL (number t) 0 0 (omega arith) (λ e. omega arith) none
+  expression-patterns (count-of e) n o = last COUNT _ 0 0 (omega arith) (λ e. omega arith) (expression-patterns e n o)
+  expression-patterns (sum-of a b) n o = two-last SUM _ _ 0 (omega arith) (λ e. omega arith) (expression-patterns a n (o .0)) (expression-patterns b _ (o .1))
+  expression-patterns (ratio-of a b) n o = two-last RATIO _ _ 0 (omega arith) (λ e. omega arith) (expression-patterns a n (o .0)) (expression-patterns b _ (o .1))
+  expression-patterns (compare-figures g a b) n o = two-last FIGURES _ _ (sign-number g) (omega arith) (λ e. omega arith) (expression-patterns a n (o .0)) (expression-patterns b _ (o .1))
 
   patterns-of-item : (i : Item) (n : ℕ) → OwnItem ts i → ShowsPatterns ts (flat-item i n) (item-patterns i)
   unfolding flat-item item-patterns OwnItem
   patterns-of-item (rows ps e) n o = both (leaves-patterns WORD ps (omega arith)) (last ROWS n (length ps) 0 (omega arith) (λ e. omega arith) (expression-patterns e (n + length ps) (o .1)))
   patterns-of-item (Syntax.word p) n o = unfold leaves in last SAY n 0 0 (omega arith) (λ e. omega arith) (leaves-patterns WORD (p ∷ []) (omega arith))
   patterns-of-item line-end n o = skip LINE-END 0 0 0 (omega arith) (λ e. omega arith) none
+  patterns-of-item (amount e) n o = last AMOUNT n 0 0 (omega arith) (λ e. omega arith) (expression-patterns e n o)
 
   items-patterns : (is : List Item) (n : ℕ) → OwnItems ts is → ShowsPatterns ts (flat-items is n) (gather item-patterns is)
   unfolding flat-items gather OwnItems

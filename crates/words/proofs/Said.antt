@@ -1,6 +1,7 @@
 -- What is read from tokens is a program of those tokens.
 use Prim.Native.Nat.{ℕ, _<_}
 use mathlib.Core.Path.{_≡_, refl, ap}
+use mathlib.Core.Bool.{Bool}
 use mathlib.Core.List.{List, [], _∷_, _++_}
 use lib.ListN.{length}
 use Rattle.definition.specs.Token as Token
@@ -9,13 +10,14 @@ use Rattle.definition.specs.Grammar.{Nonterminal, Tree}
 use Rattle.definition.specs.Grammar as Grammar
 use Rattle.definition.specs.Syntax.{Term, Expression, Item, Program, Says, says}
 use Rattle.words.specs.Raw.{number, terminal-number}
-use Rattle.words.specs.Tokens.{OwnName, OwnString, OwnTerm, OwnTerms, OwnExpression, OwnItem, OwnItems, OwnProgram}
+use Rattle.words.specs.Tokens.{OwnName, OwnString, OwnLiteral, OwnTerm, OwnTerms, OwnExpression, OwnItem, OwnItems, OwnProgram}
 
 module _ (ts : List Token) (places : (i : ℕ) → token-at ts i .at < 65536) where
-  -- an identifier's and a string's number is that of its token
+  -- an identifier's, a string's and a literal's number is that of its token
   abbrev pub Numbered : Terminal → Type 0
   Numbered (Token.name i) = (token-at ts i .terminal ≡ Token.name i) × (i < length ts)
   Numbered (Token.string i) = (token-at ts i .terminal ≡ Token.string i) × (i < length ts)
+  Numbered (Token.number o i) = (token-at ts i .terminal ≡ Token.number o i) × (i < length ts)
   Numbered (Token.sign g) = Unit {0}
   Numbered (Token.key k) = Unit {0}
 
@@ -33,6 +35,9 @@ module _ (ts : List Token) (places : (i : ℕ) → token-at ts i .at < 65536) wh
 
   own-string : (i : ℕ) → Numbered (Token.string i) → OwnString ts (token-at ts i)
   own-string i h = let n : number (token-at ts i) ≡ i = ap terminal-number (h .0) in record { found = rw n refl; inside = rw n (h .1); is-string = rw n (h .0) }
+
+  own-literal : (o : Bool) (i : ℕ) → Numbered (Token.number o i) → OwnLiteral ts (token-at ts i)
+  own-literal o i h = let n : number (token-at ts i) ≡ i = ap terminal-number (h .0) in record { found = rw n refl; inside = rw n (h .1); over = o; is-number = rw n (h .0) }
 
   abbrev Own : Expression → Type 0
   Own e = OwnExpression ts e
@@ -64,6 +69,10 @@ module _ (ts : List Token) (places : (i : ℕ) → token-at ts i .at < 65536) wh
   Good Nonterminal.Negation e = Own e
   Good Nonterminal.Primary e = Own e
   Good Nonterminal.Quantified g = (f : Token → Expression → Expression) → ((x : Token) (e : Expression) → OwnName ts x → Own e → Own (f x e)) → Own (g f)
+  Good Nonterminal.Quantity e = Own e
+  Good Nonterminal.Divisor f = (e : Expression) → Own e → Own (f e)
+  Good (Nonterminal.Summand b) e = Own e
+  Good (Nonterminal.MoreSummands k) f = (e : Expression) → Own e → Own (f e)
 
   pub said : {n : Nonterminal} (t : Tree n) → AllNumbered (Grammar.flat t) → Good n (says ts t)
   unfolding says AllNumbered OwnTerms OwnExpression OwnItem OwnItems OwnProgram
@@ -147,3 +156,15 @@ module _ (ts : List Token) (places : (i : ℕ) → token-at ts i .at < 65536) wh
   said (Tree.pattern-atom x a) h = let s = split (Grammar.flat a) _ (h .1 .1 .1) in (own-string x (h .1 .0), (said a (s .0), tt))
   said (Tree.one-more-attribute x q) h = λ f k. k _ _ (own-name x (h .0)) (said q (h .1 .1) f k)
   said (Tree.quantified-body e) h = λ f k. said e h
+  said (Tree.item-quantity q) h = said q h
+  said (Tree.figures a g b) h = let s = split (Grammar.flat a) _ h in (said a (s .0), said b (s .1 .1))
+  said (Tree.quantity a m v) h =
+      let s = split (Grammar.flat a) _ h in
+      let t = split (Grammar.flat m) _ (s .1) in
+      said v (t .1) _ (said m (t .0) _ (said a (s .0)))
+  said Tree.no-divisor h = λ e o. o
+  said (Tree.divisor a m) h = let s = split (Grammar.flat a) _ (h .1) in λ e o. (o, said m (s .1) _ (said a (s .0)))
+  said Tree.end-summands h = λ e o. o
+  said (Tree.more-summands a m) h = let s = split (Grammar.flat a) _ (h .1) in λ e o. said m (s .1) _ (o, said a (s .0))
+  said (Tree.counted e) h = let s = split (Grammar.flat e) _ (h .1 .1) in said e (s .0)
+  said (Tree.literal o x) h = own-literal o x (h .0)

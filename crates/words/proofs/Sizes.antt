@@ -4,8 +4,8 @@ use mathlib.Core.Path.{_≡_, refl, ap}
 use mathlib.Core.List.{List, [], _∷_}
 use native.Mathlib.Omega.{arith}
 use lib.ListN.{length, length-append}
-use Rattle.definition.specs.Syntax.{Term, Expression, atom, truth, falsity, compare, matching, negation, conjunction, disjunction, implication, equivalence, exists, for-all, closure-of, compare-relations}
-use Rattle.definition.specs.Syntax.{Item, rows, word, line-end, Program, end, assign, print, test, while, for, block}
+use Rattle.definition.specs.Syntax.{Term, Expression, atom, truth, falsity, compare, matching, negation, conjunction, disjunction, implication, equivalence, exists, for-all, closure-of, compare-relations, literal, count-of, sum-of, ratio-of, compare-figures}
+use Rattle.definition.specs.Syntax.{Item, rows, word, line-end, amount, Program, end, assign, print, test, while, for, block}
 use Rattle.words.specs.Raw.{leaves, size, flat, size-item, flat-item, size-items, flat-items, size-program, flat-program}
 
 pub length-leaves : (k : ℕ) (ps : List Term) → length (leaves k ps) ≡ length ps
@@ -29,6 +29,11 @@ length-flat (exists x e) n = simp (length-append, length-flat e (n + 1)) (omega 
 length-flat (for-all x e) n = simp (length-append, length-flat e (n + 1)) (omega arith)
 length-flat (closure-of e) n = simp (length-append, length-flat e n)
 length-flat (compare-relations g a b) n = simp (length-append, length-flat a n, length-flat b (n + size a)) (omega arith)
+length-flat (literal t) n = refl
+length-flat (count-of e) n = simp (length-append, length-flat e n)
+length-flat (sum-of a b) n = simp (length-append, length-flat a n, length-flat b (n + size a)) (omega arith)
+length-flat (ratio-of a b) n = simp (length-append, length-flat a n, length-flat b (n + size a)) (omega arith)
+length-flat (compare-figures g a b) n = simp (length-append, length-flat a n, length-flat b (n + size a)) (omega arith)
 
 pub size-pos : (e : Expression) → 0 < size e
 unfolding size
@@ -46,12 +51,18 @@ size-pos (exists x e) = omega arith
 size-pos (for-all x e) = omega arith
 size-pos (closure-of e) = omega arith
 size-pos (compare-relations g a b) = omega arith
+size-pos (literal t) = omega arith
+size-pos (count-of e) = omega arith
+size-pos (sum-of a b) = omega arith
+size-pos (ratio-of a b) = omega arith
+size-pos (compare-figures g a b) = omega arith
 
 pub length-item : (i : Item) (n : ℕ) → length (flat-item i n) ≡ size-item i
 unfolding flat-item size-item leaves
 length-item (rows ps e) n = simp (length-append, length-leaves, length-flat e (n + length ps))
 length-item (word p) n = refl
 length-item line-end n = refl
+length-item (amount e) n = simp (length-append, length-flat e n)
 
 pub length-items : (is : List Item) (n : ℕ) → length (flat-items is n) ≡ size-items is
 unfolding flat-items size-items

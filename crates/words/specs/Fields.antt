@@ -87,7 +87,26 @@ COMPARISON = 22
 abbrev pub MATCH : ℕ
 MATCH = 23
 
--- items
+-- quantities: how many assignments make an expression true; a whole literal; a sum; a sum over a sum; and a sign between two of them
+abbrev pub COUNT : ℕ
+COUNT = 24
+
+abbrev pub LITERAL : ℕ
+LITERAL = 25
+
+abbrev pub SUM : ℕ
+SUM = 26
+
+abbrev pub RATIO : ℕ
+RATIO = 27
+
+abbrev pub FIGURES : ℕ
+FIGURES = 28
+
+-- items: a quantity; rows; a word by itself; ENDL
+abbrev pub AMOUNT : ℕ
+AMOUNT = 29
+
 abbrev pub ROWS : ℕ
 ROWS = 30
 

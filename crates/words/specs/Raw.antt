@@ -5,15 +5,16 @@ use mathlib.Core.List.{List, [], _∷_, _++_}
 use lib.ListN.{length}
 use Rattle.definition.specs.Token as Token
 use Rattle.definition.specs.Token.{Sign, equal, unequal, less, at-most, greater, at-least, Terminal, Token}
-use Rattle.definition.specs.Syntax.{Term, name, string, anything, Expression, atom, truth, falsity, compare, matching, negation, conjunction, disjunction, implication, equivalence, exists, for-all, closure-of, compare-relations}
+use Rattle.definition.specs.Syntax.{Term, name, string, anything, Expression, atom, truth, falsity, compare, matching, negation, conjunction, disjunction, implication, equivalence, exists, for-all, closure-of, compare-relations, literal, count-of, sum-of, ratio-of, compare-figures}
 use Rattle.definition.specs.Syntax as Syntax
-use Rattle.definition.specs.Syntax.{Item, rows, line-end, Program, end, assign, print, test, while, for, block}
-use Rattle.words.specs.Fields.{word, RELATION-NAME, ATTRIBUTE, TERM, WORD, BIND, RANGE, NEXT, ANYTHING, ATOM, TRUTH, FALSITY, ORDER, NEGATION, CONJUNCTION, DISJUNCTION, IMPLICATION, EQUIVALENCE, EXISTS, FOR-ALL, CLOSURE, COMPARISON, MATCH, ROWS, SAY, LINE-END, ASSIGN, TEST, JUMP, AGAIN, PRINT, STRING}
+use Rattle.definition.specs.Syntax.{Item, rows, line-end, amount, Program, end, assign, print, test, while, for, block}
+use Rattle.words.specs.Fields.{word, RELATION-NAME, ATTRIBUTE, TERM, WORD, BIND, RANGE, NEXT, ANYTHING, ATOM, TRUTH, FALSITY, ORDER, NEGATION, CONJUNCTION, DISJUNCTION, IMPLICATION, EQUIVALENCE, EXISTS, FOR-ALL, CLOSURE, COMPARISON, MATCH, COUNT, LITERAL, SUM, RATIO, FIGURES, ROWS, SAY, LINE-END, ASSIGN, TEST, JUMP, AGAIN, PRINT, AMOUNT, STRING}
 
--- an identifier's or a string's number among the tokens
+-- an identifier's, a string's or a literal's number among the tokens
 abbrev pub terminal-number : Terminal → ℕ
 terminal-number (Token.name i) = i
 terminal-number (Token.string i) = i
+terminal-number (Token.number o i) = i
 terminal-number (Token.sign g) = 0
 terminal-number (Token.key k) = 0
 
@@ -54,6 +55,11 @@ size (exists x e) = size e + 2
 size (for-all x e) = size e + 2
 size (closure-of e) = size e + 1
 size (compare-relations g a b) = size a + size b + 1
+size (literal t) = 1
+size (count-of e) = size e + 1
+size (sum-of a b) = size a + size b + 1
+size (ratio-of a b) = size a + size b + 1
+size (compare-figures g a b) = size a + size b + 1
 
 -- an operator over the expressions that end before the places m and l
 abbrev pub over : ℕ → ℕ → ℕ → ℕ → ℕ
@@ -77,17 +83,24 @@ flat (exists x e) n = word ATTRIBUTE (number x) 0 0 ∷ (flat e (n + 1) ++ (word
 flat (for-all x e) n = word ATTRIBUTE (number x) 0 0 ∷ (flat e (n + 1) ++ (word FOR-ALL n (n + size e) 0 ∷ []))
 flat (closure-of e) n = flat e n ++ (word CLOSURE (n + size e - 1) 0 0 ∷ [])
 flat (compare-relations g a b) n = flat a n ++ (flat b (n + size a) ++ (over COMPARISON (n + size a) (n + size a + size b) (sign-number g) ∷ []))
+flat (literal t) n = word LITERAL (number t) 0 0 ∷ []
+flat (count-of e) n = flat e n ++ (word COUNT (n + size e - 1) 0 0 ∷ [])
+flat (sum-of a b) n = flat a n ++ (flat b (n + size a) ++ (over SUM (n + size a) (n + size a + size b) 0 ∷ []))
+flat (ratio-of a b) n = flat a n ++ (flat b (n + size a) ++ (over RATIO (n + size a) (n + size a + size b) 0 ∷ []))
+flat (compare-figures g a b) n = flat a n ++ (flat b (n + size a) ++ (over FIGURES (n + size a) (n + size a + size b) (sign-number g) ∷ []))
 
 unfoldable pub size-item : Item → ℕ
 size-item (rows ps e) = length ps + (size e + 1)
 size-item (Syntax.word p) = 2
 size-item line-end = 1
+size-item (amount e) = size e + 1
 
 -- an item: its label, if any, then its expression; the item's own word has the place of its first word and the number of labels
 unfoldable pub flat-item : Item → ℕ → List ℕ
 flat-item (rows ps e) n = leaves WORD ps ++ (flat e (n + length ps) ++ (word ROWS n (length ps) 0 ∷ []))
 flat-item (Syntax.word p) n = leaf WORD p ∷ word SAY n 0 0 ∷ []
 flat-item line-end n = word LINE-END 0 0 0 ∷ []
+flat-item (amount e) n = flat e n ++ (word AMOUNT n 0 0 ∷ [])
 
 unfoldable pub size-items : List Item → ℕ
 size-items [] = 0

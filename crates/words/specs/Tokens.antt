@@ -1,16 +1,17 @@
--- A program whose names and strings are tokens of a list, and whose statements' places are small: so is what was read from a text.
+-- A program whose names, strings and literals are tokens of a list, and whose statements' places are small: so is what was read from a text.
 use Prim.Native.Nat.{_<_}
 use mathlib.Core.Path.{_≡_}
+use mathlib.Core.Bool.{Bool}
 use mathlib.Core.List.{List, [], _∷_}
 use lib.ListN.{length}
 use Rattle.definition.specs.Token as Token
 use Rattle.definition.specs.Token.{Token, token-at}
-use Rattle.definition.specs.Syntax.{Term, name, string, anything, Expression, atom, truth, falsity, compare, matching, negation, conjunction, disjunction, implication, equivalence, exists, for-all, closure-of, compare-relations}
-use Rattle.definition.specs.Syntax.{Item, rows, word, line-end, Program, end, assign, print, test, while, for, block}
+use Rattle.definition.specs.Syntax.{Term, name, string, anything, Expression, atom, truth, falsity, compare, matching, negation, conjunction, disjunction, implication, equivalence, exists, for-all, closure-of, compare-relations, literal, count-of, sum-of, ratio-of, compare-figures}
+use Rattle.definition.specs.Syntax.{Item, rows, word, line-end, amount, Program, end, assign, print, test, while, for, block}
 use Rattle.words.specs.Raw.{number}
 
 module _ (ts : List Token) where
-  -- an identifier, or a string, of the list, under its own number
+  -- an identifier, a string, or a literal, of the list, under its own number
   pub record OwnName (t : Token) : Type 0 where
     pub found : token-at ts (number t) ≡ t
     pub inside : number t < length ts
@@ -20,6 +21,12 @@ module _ (ts : List Token) where
     pub found : token-at ts (number t) ≡ t
     pub inside : number t < length ts
     pub is-string : t .terminal ≡ Token.string (number t)
+
+  pub record OwnLiteral (t : Token) : Type 0 where
+    pub found : token-at ts (number t) ≡ t
+    pub inside : number t < length ts
+    pub over : Bool
+    pub is-number : t .terminal ≡ Token.number over (number t)
 
   abbrev pub OwnTerm : Term → Type 0
   OwnTerm (name t) = OwnName t
@@ -45,11 +52,17 @@ module _ (ts : List Token) where
   OwnExpression (for-all x e) = OwnName x × OwnExpression e
   OwnExpression (closure-of e) = OwnExpression e
   OwnExpression (compare-relations g a b) = OwnExpression a × OwnExpression b
+  OwnExpression (literal t) = OwnLiteral t
+  OwnExpression (count-of e) = OwnExpression e
+  OwnExpression (sum-of a b) = OwnExpression a × OwnExpression b
+  OwnExpression (ratio-of a b) = OwnExpression a × OwnExpression b
+  OwnExpression (compare-figures g a b) = OwnExpression a × OwnExpression b
 
   unfoldable pub OwnItem : Item → Type 0
   OwnItem (rows ps e) = OwnTerms ps × OwnExpression e
   OwnItem (word p) = OwnTerms (p ∷ [])
   OwnItem line-end = Unit {0}
+  OwnItem (amount e) = OwnExpression e
 
   unfoldable pub OwnItems : List Item → Type 0
   OwnItems [] = Unit {0}

@@ -14,7 +14,7 @@ pub struct Explained {
     pub at: Option<At>,
     /// the rule that is broken
     pub rule: &'static str,
-    /// what is wrong with a refused pattern, where that can be told; the caret is then shown under its byte
+    /// what is wrong with a refused pattern or number, where that can be told; the caret is then shown under its byte
     pub fault: Option<Fault>,
 }
 
@@ -45,13 +45,14 @@ fn rule(refusal: Refusal) -> &'static str {
         Refusal::NoToken => "a token starts here that is none, is over 32 bytes, or is a string or comment left open; or a byte is not 9, 10 or 32 to 126: a query's lines end in LF (10), not in CR LF (13, 10)",
         Refusal::NoProgram => "the tokens up to here begin no program",
         Refusal::Kind => "a name has one kind (relation, attribute, loop variable) throughout, its place takes that kind, and a loop variable stands in its loop's block only and is not bound again there",
-        Refusal::FreeAttributes => "an assignment's left attributes are the free ones of its right side; IF and WHILE have none, FOR one, TC and TCFAST two, a printed expression at most 3",
+        Refusal::FreeAttributes => "an assignment's left attributes are the free ones of its right side; IF and WHILE have none, FOR one, TC and TCFAST two, a printed expression and what #(e) counts at most 3",
         Refusal::TooMuch => "a query has at most 2,048 tokens and 32 levels, a statement at most 4 attribute names and 16 closures",
         Refusal::StoreShort => "the store has at least the words needed",
         Refusal::NotInFacts => "the facts hold a binary relation of this name and both elements",
         Refusal::BufferShort => "a chain's buffer has at least 65 bytes",
         Refusal::NoChain => "no chain exists",
         Refusal::Pattern => "a pattern is one or more branches parted by |, each one or more pieces: ^, $, or a character, ., set or group with at most one repeat sign *, +, ? or {m,n}",
+        Refusal::Number => "a sum has at most 8 summands, each a count #(e) or a number, and a number is at most 999,999",
     }
 }
 
@@ -60,7 +61,7 @@ fn text_of(refused: &Refused, facts: &[u8]) -> Option<Text> {
     match refused.refusal.number() {
         1..=4 => Some(Text::Facts),
         5..=7 if check(facts, b"") == Err(*refused) => Some(Text::Facts),
-        5..=13 | 18 => Some(Text::Query),
+        5..=13 | 18 | 19 => Some(Text::Query),
         _ => None,
     }
 }
@@ -88,6 +89,7 @@ fn token(rest: &[u8]) -> usize {
         None => 0,
         Some(b'"') => string(rest),
         Some(b) if b.is_ascii_alphabetic() || *b == b'_' => run_of(rest, |b| !b.is_ascii_alphanumeric() && b != b'_'),
+        Some(b) if b.is_ascii_digit() => run_of(rest, |b| !b.is_ascii_digit()),
         Some(_) => LONG.iter().find(|m| rest.starts_with(m)).map_or(1, |m| m.len()),
     }
 }
@@ -130,10 +132,23 @@ fn at(refused: &Refused, which: Text, text: &[u8]) -> At {
     }
 }
 
-/// What is wrong with the string that was found, if it was refused as a pattern.
+/// What is wrong with a summand's first token: a number that is too large, whichever summand it is, or one summand too many.
+fn summand_fault(token: &[u8]) -> Option<Fault> {
+    let reason = match token.first()? {
+        b'0'..=b'9' if token.iter().skip_while(|&&b| b == b'0').count() > 6 => "a number over 999,999",
+        b'0'..=b'9' | b'#' => "a ninth summand of one sum",
+        _ => return None,
+    };
+    Some(Fault { offset: 0, reason })
+}
+
+/// What is wrong with the token that was found, if it was refused as a pattern or a number.
 fn fault_of(refused: &Refused, found: &[u8]) -> Option<Fault> {
-    let pattern = found.strip_prefix(b"\"")?.strip_suffix(b"\"")?;
-    first_fault(pattern).filter(|_| refused.refusal == Refusal::Pattern)
+    match refused.refusal {
+        Refusal::Pattern => first_fault(found.strip_prefix(b"\"")?.strip_suffix(b"\"")?),
+        Refusal::Number => summand_fault(found),
+        _ => None,
+    }
 }
 
 /// Where and why the texts of a call were refused; `query` is empty for a chain.
@@ -168,7 +183,8 @@ impl fmt::Display for Explained {
         let mut caret = at.caret;
         if let Some(fault) = self.fault {
             write!(f, "; here {}", fault.reason)?;
-            caret += 1 + fault.offset; // a pattern begins after its string's quote
+            // a pattern begins after its string's quote
+            caret += fault.offset + (self.refused.refusal == Refusal::Pattern) as usize;
         }
         write!(f, "\n  {}\n  {}^", plain(&at.shown), " ".repeat(caret))
     }

@@ -45,10 +45,11 @@ pub enum Refusal {
     BufferShort,
     NoChain,
     Pattern,
+    Number,
 }
 
 impl Refusal {
-    const ALL: [Refusal; 18] = [
+    const ALL: [Refusal; 19] = [
         Refusal::FactsTooLong,
         Refusal::FactByte,
         Refusal::FactName,
@@ -67,6 +68,7 @@ impl Refusal {
         Refusal::BufferShort,
         Refusal::NoChain,
         Refusal::Pattern,
+        Refusal::Number,
     ];
 
     /// The documents' number.
@@ -163,7 +165,8 @@ pub fn check(facts: &[u8], query: &[u8]) -> Result<Checked, Refused> {
 }
 
 /// Runs the query over the facts; on refusal store and output are unchanged. An element is printed in quotes if a fact quoted it, or if
-/// it is empty or holds a blank, so the lines of `PRINT ["R"] R(x,y);` can be read back as facts.
+/// it is empty or holds a blank, so the lines of `PRINT ["R"] R(x,y);` can be read back as facts. A sum is printed as its digits, a
+/// ratio reduced, as `1/3`, or `none` over 0, with no line end.
 pub fn run(facts: &[u8], query: &[u8], budget: u32, store: &mut [u64], output: &mut [u8]) -> Result<Ran, Refused> {
     let a = c::run(facts, query, budget, store, output);
     accepted(a.refusal, a.place)?;

@@ -1,5 +1,5 @@
-//! The wrapper over the archive: the worked example, facts saved with CR LF, patterns, printed quotes, counts of tuples, refusals, empty
-//! and equal texts, largest sizes.
+//! The wrapper over the archive: the worked example, facts saved with CR LF, patterns, printed quotes, counts of tuples, sums and ratios,
+//! refusals, empty and equal texts, largest sizes.
 use relcalc::{c, chain, check, element, explain, run, Ending, Explained, Fault, Refusal, Refused, Text, CHAIN_BYTES, RELATIONS, STORE_WORDS};
 
 const FACTS: &[u8] = b"On C10 C5\nOn C5 C2\nOn B7 C10\nHeld B7\n";
@@ -312,6 +312,77 @@ fn sizes_of_the_structs() {
 }
 
 #[test]
+fn quantities() {
+    let pages = [
+        ("PRINT #(On(x,y)), #(On(x,_)), #(TRUE()), #(FALSE(x));", "3310"),
+        ("PRINT #(Held(x) & On(x,_)) / #(On(x,_));", "1/3"),
+        ("FOR c IN On(_,x) { PRINT c, \" \", #(On(x,c)) / #(On(x,y)), ENDL; }", "C10 1/3\nC2 1/3\nC5 1/3\n"),
+        ("PRINT 1+2/3+4, \" \", 6/3, \" \", 0/5, \" \", 007, \" \", 999999+999999;", "3/7 2/1 0/1 7 1999998"),
+        ("PRINT 1/0, 0/0, #(Held(x))/#(FALSE(x));", "nonenonenone"),
+        ("PRINT [\"a\"] 2/4 = 3/6, [\"b\"] 1/3 < 1/2, [\"c\"] 5/9 < 4/7, [\"d\"] 2 > 4/2;", "a\nb\nc\n"),
+        ("PRINT [\"a\"] 1/0 = 1, [\"b\"] 1/0 != 1, [\"c\"] 1 <= 0/0, [\"d\"] !(1/0 = 1/0);", "d\n"),
+        ("PRINT [\"a\"] 65536 = 0/65536;", ""),
+        ("PRINT Held(x) & (#(On(x,y)) = 3);", "B7\n"),
+        ("WHILE #(Held(x)) < 3 { Held(x) := Held(x) | EX(y, Held(y) & On(y,x)); } PRINT #(Held(x));", "3"),
+        ("IF #(Held(x))/#(On(x,_)) < 1/2 { PRINT \"low\"; } ELSE { PRINT \"high\"; }", "low"),
+        ("PRINT 6/*2*//3, 6// 2\n;", "2/16"),
+        ("PRINT 00000000000000000000000000999999;", "999999"),
+    ];
+    for (query, printed) in pages {
+        assert_eq!(page(query), printed, "{query}");
+    }
+    let (mut store, mut output) = (vec![7; STORE_WORDS], [7; 3]);
+    let ran = run(FACTS, b"PRINT 10/4;", 9, &mut store, &mut output[..2]).unwrap();
+    assert_eq!((ran.ending, ran.steps, ran.written), (Ending::Full, 0, 0));
+    let ran = run(FACTS, b"PRINT 10/4;", 9, &mut store, &mut output).unwrap();
+    assert_eq!((ran.ending, ran.steps, ran.written, &output), (Ending::Done, 1, 3, b"5/2"));
+    let ran = run(b"", b"PRINT #(TRUE(x)), #(TRUE());", 9, &mut [], &mut output).unwrap();
+    assert_eq!((ran.ending, ran.written, &output), (Ending::Done, 2, b"012"));
+}
+
+#[test]
+fn refused_numbers() {
+    let digits = format!("PRINT {};", "0".repeat(33));
+    let rows = [
+        (Refusal::Number, 6, "PRINT 1000000;"),
+        (Refusal::Number, 6, "PRINT 0001000000;"),
+        (Refusal::Number, 22, "PRINT 1+1+1+1+1+1+1+1+1;"),
+        (Refusal::Number, 21, "IF 2/1+1+1+1+1+1+1+1+#(Held(x)) < 1 { P(); }"),
+        (Refusal::Number, 19, "PRINT zz, @\"(\"(x), 1000000;"),
+        (Refusal::NoToken, 6, &digits),
+        (Refusal::NoProgram, 9, "PRINT On(1000000,x);"),
+        (Refusal::NoProgram, 7, "PRINT !1=1;"),
+        (Refusal::NoProgram, 13, "PRINT [\"a\"] 1;"),
+        (Refusal::FreeAttributes, 5, "P(); PRINT #(TRUE(x,y,z,w));"),
+        (Refusal::FreeAttributes, 0, "Q(x) := #(On(x,y)) > 1;"),
+    ];
+    for (refusal, place, query) in rows {
+        let query = query.as_bytes();
+        assert_eq!(check(FACTS, query), Err(refused(refusal, place)));
+        assert_eq!(run(FACTS, query, 9, &mut [7; 99], &mut []), Err(refused(refusal, place)));
+        assert_eq!(element(FACTS, query, 0), None);
+    }
+}
+
+#[test]
+fn words_on_refused_numbers() {
+    let told = |refusal, place, query: &str| explain(refused(refusal, place), FACTS, query.as_bytes()).to_string();
+    let large = told(Refusal::Number, 16, "IF #(Held(x)) > 1000000 { P(); }");
+    assert!(large.starts_with("query:1:17: refused 19 at `1000000`: "), "{large}");
+    assert!(large.ends_with("; here a number over 999,999\n  IF #(Held(x)) > 1000000 { P(); }\n                  ^"), "{large}");
+    let ninth = told(Refusal::Number, 24, "PRINT\n1+1+1+1+1+1+1+1\n+ 999999;");
+    assert!(ninth.starts_with("query:3:3: refused 19 at `999999`: "), "{ninth}");
+    assert!(ninth.ends_with("; here a ninth summand of one sum\n  + 999999;\n    ^"), "{ninth}");
+    let ninth = told(Refusal::Number, 22, "PRINT 1+1+1+1+1+1+1+1+#(Held(x));");
+    assert!(ninth.starts_with("query:1:23: refused 19 at `#`: a sum has at most 8 summands"), "{ninth}");
+    assert!(ninth.ends_with(&format!("; here a ninth summand of one sum\n  PRINT 1+1+1+1+1+1+1+1+#(Held(x));\n  {}^", " ".repeat(22))), "{ninth}");
+    let digits = told(Refusal::NoToken, 6, &format!("PRINT {};", "1".repeat(33)));
+    assert!(digits.starts_with(&format!("query:1:7: refused 9 at `{}`: ", "1".repeat(33))), "{digits}");
+    let term = told(Refusal::NoProgram, 9, "PRINT On(12x,y);");
+    assert!(term.starts_with("query:1:10: refused 10 at `12`: "), "{term}");
+}
+
+#[test]
 fn refused_patterns() {
     for (pattern, _, _) in NO_PATTERNS {
         assert_eq!(check(FACTS, picking(pattern).as_bytes()), Err(refused(Refusal::Pattern, 7)), "{pattern}");
@@ -345,6 +416,7 @@ fn a_refusal_changes_nothing() {
     assert_eq!(run(b"Held B7\r\r\n", QUERY, 9, &mut store, &mut output), Err(refused(Refusal::FactByte, 7)));
     assert_eq!(run(FACTS, b"PRINT ENDL;\r\n", 9, &mut store, &mut output), Err(refused(Refusal::NoToken, 11)));
     assert_eq!(run(FACTS, b"PRINT @\"C{3}\"(x);", 9, &mut store, &mut output), Err(refused(Refusal::Pattern, 7)));
+    assert_eq!(run(FACTS, b"PRINT 1000000;", 9, &mut store, &mut output), Err(refused(Refusal::Number, 6)));
     assert_eq!((store, output), ([7; 76], [7; 10]));
 }
 
@@ -441,7 +513,7 @@ fn words_where_a_limit_meets_a_line_end() {
 #[test]
 fn words_on_any_text_and_place() {
     use Refusal::*;
-    let rows = [FactsTooLong, FactByte, FactElement, Arity, NoToken, NoProgram, Pattern];
+    let rows = [FactsTooLong, FactByte, FactElement, Arity, NoToken, NoProgram, Pattern, Number];
     let texts: [&[u8]; 6] = [b"", b"\r", b"\n\r\n", b"a\r\nb\r", b"\"\r\n\"", b"\r\r\n"];
     for (row, text, place) in rows.iter().flat_map(|r| texts.map(|t| (0..=t.len() + 1).map(move |p| (*r, t, p)))).flatten() {
         let e = explain(refused(row, place), text, text);
@@ -493,6 +565,8 @@ fn largest_sizes() {
     let ran = run(&facts, &query, u32::MAX, &mut store, &mut output).unwrap();
     assert_eq!((ran.ending, ran.steps, ran.written), (Ending::Done, 2, 64 * 8));
     assert_eq!(ran.counts[..], [[64, 64].as_slice(), &[1; 14]].concat());
+    let ran = run(&facts, b"PRINT #(TRUE(x,y,z)), \" \", #(R0(x,y,z)) / 64+64;", 9, &mut store, &mut output).unwrap();
+    assert_eq!((ran.ending, &output[..ran.written]), (Ending::Done, &b"262144 1/2"[..]));
     let ran = run(&facts, b"R0(x,y,z) := FALSE(x,y,z); R15(x,y,z);", 9, &mut store, &mut []).unwrap();
     assert_eq!(ran.counts[..], [[0].as_slice(), &[1; 14], &[262_144]].concat());
     assert_eq!(element(&facts, &query, 63).unwrap().of(&facts, &query), b"e63");

@@ -21,8 +21,8 @@ impl Met {
     }
     /// Whether all of them were.
     pub fn all(&self) -> Difference {
-        let check = (1..=13).chain([18]).map(|r| format!("check {r:2}"));
-        let run = (1..=14).chain([18]).map(|r| format!("run {r:2}"));
+        let check = (1..=13).chain([18, 19]).map(|r| format!("check {r:2}"));
+        let run = (1..=14).chain([18, 19]).map(|r| format!("run {r:2}"));
         let chain = (1..=7).chain(15..=17).map(|r| format!("chain {r:2}"));
         let endings = ["run Done", "run Spent", "run Full", "check accepted", "chain found"].map(String::from);
         let ways = ["as loaded", "larger", "smaller", "larger and smaller"];

@@ -4,7 +4,7 @@ use crate::run::Ending;
 use crate::{accept, chain, check, element, is_chain, run, Refusal};
 
 /// Papers 1 to this one of document 02 are in force.
-const PAPERS: u64 = 4;
+const PAPERS: u64 = 5;
 
 /// Whether a case holds now: one of document 02 says after which papers it does.
 pub fn holds(c: &Json) -> bool {

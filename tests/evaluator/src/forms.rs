@@ -1,8 +1,9 @@
-//! Which forms the expressions, patterns, statements, repeated facts and printed elements of accepted texts have, how large relations
-//! become, how texts with a malformed pattern are refused, and where bytes 13 stand in texts, by name: what the tally counts.
+//! Which forms the expressions, patterns, quantities, statements, repeated facts and printed elements of accepted texts have, how large
+//! relations become, how texts with a malformed pattern or a number are refused, and where bytes 13 stand in texts, by name: what the
+//! tally counts.
 use crate::facts::{is_legal, needs_quotes, Fact};
 use crate::names::left_strings;
-use crate::parse::{Expr, Item, Stmt, Term};
+use crate::parse::{Expr, Item, Quantity, Stmt, Sum, Summand, Term, LARGEST_LITERAL};
 use crate::pattern::{self, Pattern};
 use crate::picked::SPECIAL;
 use crate::tokens::{self, Kind, Token};
@@ -40,6 +41,7 @@ fn occurs(e: &Expr, x: &[u8]) -> bool {
         Expr::Matches(_, a) => is(a),
         Expr::Not(a) | Expr::Tc(a) | Expr::Ex(_, a) | Expr::Fa(_, a) => occurs(a, x),
         Expr::Two(_, a, b) | Expr::Compare(_, a, b) => occurs(a, x) || occurs(b, x),
+        Expr::Weigh(_, a, b) => a.counted().chain(b.counted()).any(|e| occurs(e, x)),
     }
 }
 
@@ -157,7 +159,44 @@ impl Forms<'_> {
                 self.expression(a, &Around::only(" in a comparison"));
                 self.expression(b, &Around::only(" in a comparison"));
             }
+            Expr::Weigh(s, a, b) => {
+                let part = if around.connective { " beside a connective" } else { "" };
+                self.add(format!("quantities compared by {s}"));
+                self.add(format!("quantities compared{under}{part}{}", around.within));
+                self.quantity(a, around);
+                self.quantity(b, around);
+            }
         }
+    }
+    fn sum(&mut self, sum: &Sum, around: &Around) {
+        self.add(format!("sum of {}", sum.len()));
+        for s in sum {
+            match s {
+                Summand::Count(e) => self.count(e, around),
+                Summand::Literal(n) if *n == 0 || *n == LARGEST_LITERAL => self.add(format!("literal {n}")),
+                Summand::Literal(_) => self.add("literal between".into()),
+            }
+        }
+    }
+    fn quantity(&mut self, q: &Quantity, around: &Around) {
+        self.sum(&q.top, around);
+        if let Some(bottom) = &q.bottom {
+            self.add("ratio".into());
+            self.sum(bottom, around);
+        }
+    }
+    fn count(&mut self, e: &Expr, around: &Around) {
+        let free = self.texts.names.free(e);
+        let hides = if free.iter().any(|x| around.bound.contains(x)) { ", hiding" } else { "" };
+        self.add(format!("count of {} attributes{hides}{}", free.len(), around.within));
+        self.expression(e, &Around::only(" in a count"));
+    }
+    /// An expression of a statement that may have none free, so that it may be a comparison of quantities.
+    fn whole(&mut self, e: &Expr, place: &str) {
+        if let Expr::Weigh(..) = e {
+            self.add(format!("quantities compared as {place}"));
+        }
+        self.expression(e, &Around::default());
     }
     fn left(&mut self, left: &[Term]) {
         let names: Vec<&Vec<u8>> = left.iter().filter_map(|p| if let Term::Name(t) = p { Some(&t.text) } else { None }).collect();
@@ -168,8 +207,13 @@ impl Forms<'_> {
     fn item(&mut self, i: &Item) {
         if let Item::Rows(label, e) = i {
             let columns = self.texts.names.free(e).len();
-            self.add(format!("printed columns: {columns}{}", if label.is_some() { ", labelled" } else { "" }));
-            self.expression(e, &Around::default());
+            let label = if label.is_some() { ", labelled" } else { "" };
+            self.add(format!("printed columns: {columns}{label}"));
+            self.whole(e, &format!("an item{label}"));
+        }
+        if let Item::Quantity(q) = i {
+            self.add(format!("printed {}", if q.bottom.is_some() { "ratio" } else { "sum" }));
+            self.quantity(q, &Around::default());
         }
     }
     fn statements(&mut self, all: &[Stmt]) {
@@ -177,18 +221,22 @@ impl Forms<'_> {
             match s {
                 Stmt::Assign(_, _, left, e) => {
                     self.left(left);
-                    self.expression(e, &Around::default());
+                    self.whole(e, "a right side");
                 }
                 Stmt::Print(_, items) => {
                     self.add(format!("printed items: {}", items.len().min(4)));
                     items.iter().for_each(|i| self.item(i));
                 }
                 Stmt::If(_, e, yes, no) => {
-                    self.expression(e, &Around::default());
+                    self.whole(e, "the test of an IF");
                     self.statements(yes);
                     self.statements(no);
                 }
-                Stmt::While(_, e, body) | Stmt::For(_, _, e, body) => {
+                Stmt::While(_, e, body) => {
+                    self.whole(e, "the test of a WHILE");
+                    self.statements(body);
+                }
+                Stmt::For(_, _, e, body) => {
                     self.expression(e, &Around::default());
                     self.statements(body);
                 }
@@ -308,6 +356,33 @@ pub fn malformed(facts: &[u8], query: &[u8]) -> Vec<String> {
         Err((row, _)) => vec![format!("malformed pattern, but refused {row:2}")],
         Ok(_) => unreachable!(),
     }
+}
+
+/// Runs of digits in a text, and how a text is refused at one, or at a ninth summand.
+pub fn numbers(facts: &[u8], query: &[u8]) -> Vec<String> {
+    let tokens = tokens::read(query).unwrap_or_default();
+    let large = |t: &Token| t.text.iter().skip_while(|b| **b == b'0').count() > 6;
+    let kind = |t: &Token| match t.text.as_slice() {
+        _ if large(t) => "over 999,999",
+        [b'0', _, ..] => "with a zero in front",
+        _ => "at most 999,999",
+    };
+    let length = |t: &Token| if t.text.len() == 32 { " of 32 digits" } else { "" };
+    let runs = tokens.iter().filter(|t| t.kind == Kind::Number);
+    let mut found: Vec<String> = runs.map(|t| format!("number {}{}", kind(t), length(t))).collect();
+    let Err((row @ (10 | 19), place)) = accept(facts, query) else {
+        return found;
+    };
+    // where a text ends too soon there is no token
+    let Some(t) = tokens.iter().find(|t| t.at == place) else {
+        return found;
+    };
+    match t.kind {
+        Kind::Number => found.push(format!("refused {row} at a number {}", kind(t))),
+        Kind::Fixed("#" | "+" | "/") => found.push(format!("refused {row} at a {}", String::from_utf8_lossy(&t.text))),
+        _ => {}
+    }
+    found
 }
 
 /// Where a byte 13 of a line stands.

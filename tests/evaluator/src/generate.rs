@@ -1,8 +1,8 @@
 //! Texts for comparisons: facts and queries that are mostly accepted, the same with damage, texts with several faults, and texts at each
 //! limit of document 01; some of them saved with CR LF, as Paper 1 of document 02 allows for facts, or with bytes 13 elsewhere, some with
-//! patterns, as Paper 2 adds them, some that print what left-hand sides enter, as Paper 3 wants it, and some whose relations grow and
-//! shrink, for the counts of Paper 4.
-use crate::{accept, entered, picked, resized, saved, shapes};
+//! patterns, as Paper 2 adds them, some that print what left-hand sides enter, as Paper 3 wants it, some whose relations grow and shrink,
+//! for the counts of Paper 4, and some with the sums and ratios of Paper 5.
+use crate::{accept, entered, picked, resized, saved, shapes, shares};
 
 /// A small generator of pseudo-random numbers: the same seed gives the same texts on every machine.
 pub struct Random(u64);
@@ -169,7 +169,7 @@ impl Writer<'_> {
             10 if self.attributes.len() > 1 && self.closures < 16 => self.closure(d),
             11 => {
                 self.put("(");
-                self.comparison(d - 1);
+                if self.r.one_in(3) { self.weighing(d - 1) } else { self.comparison(d - 1) }
                 self.put(")");
             }
             _ => {
@@ -199,6 +199,37 @@ impl Writer<'_> {
         let s = self.sign();
         self.put(s);
         self.expression(d);
+    }
+    /// a sum; a number too large now and then
+    fn sum(&mut self, d: usize) {
+        for i in 0..1 + self.r.below(2) * self.r.below(3) {
+            if i > 0 {
+                let plus = *self.r.pick(&["+", " + "]);
+                self.put(plus);
+            }
+            if d > 0 && !self.r.one_in(3) {
+                self.put("#(");
+                self.expression(d - 1);
+                self.put(")");
+            } else {
+                let n = if self.r.one_in(50) { "1000000" } else { *self.r.pick(&["0", "1", "1", "2", "3", "4", "10", "007", "999999"]) };
+                self.put(n);
+            }
+        }
+    }
+    fn quantity(&mut self, d: usize) {
+        self.sum(d);
+        if self.r.one_in(2) {
+            let slash = *self.r.pick(&["/", " / "]);
+            self.put(slash);
+            self.sum(d);
+        }
+    }
+    fn weighing(&mut self, d: usize) {
+        self.quantity(d);
+        let s = self.sign();
+        self.put(s);
+        self.quantity(d);
     }
     /// closes an expression over all attributes but those kept
     fn closed(&mut self, keep: &[&str], d: usize) {
@@ -263,6 +294,7 @@ impl Writer<'_> {
                 let v = *self.r.pick(&self.open.clone());
                 self.put(v);
             }
+            3 if self.r.one_in(2) => self.quantity(2),
             k => {
                 if k < 5 {
                     self.put("[");
@@ -367,7 +399,7 @@ pub fn query(r: &mut Random) -> Vec<u8> {
 
 /// Some bytes changed, left out, doubled or moved.
 pub fn damage(r: &mut Random, text: &mut Vec<u8>) {
-    const BYTES: &[u8] = b"()[]{},;:=&|!-<>\"_#. \n\tAx0/*\x00\x7f\xff\r";
+    const BYTES: &[u8] = b"()[]{},;:=&|!-<>\"_#. \n\tAx019+/*\x00\x7f\xff\r";
     for _ in 0..1 + r.below(3) {
         let at = r.below(text.len() + 1);
         match r.below(5) {
@@ -392,7 +424,7 @@ fn repeated(n: usize, f: impl Fn(usize) -> String) -> String {
 }
 
 /// The limits of documents 01 and 02 that texts can meet.
-pub const LIMITS: usize = 54;
+pub const LIMITS: usize = 71;
 
 /// Texts one below a limit (past 0), at it (1) or one past it (2). Where a document asks for an exact number, that is the middle one.
 pub fn limit(kind: usize, past: usize) -> (Vec<u8>, Vec<u8>) {
@@ -404,6 +436,8 @@ pub fn limit(kind: usize, past: usize) -> (Vec<u8>, Vec<u8>) {
     let single = "Held B7\n".to_string();
     let two_bytes = |count: usize| repeated(count, |i| format!("A {i:02}\n"));
     let one_byte = |i: usize| (b'0' + i as u8) as char;
+    let ones = |count: usize| vec!["1"; count].join("+");
+    let counts = |count: usize| vec!["#(Held(x))"; count].join("+");
     let (facts, query) = match kind {
         0 => (format!("{:#<width$}", "On a b\n#", width = n(32768)), plain),
         1 => (format!("Held {}\n", "e".repeat(n(32))), plain),
@@ -461,6 +495,27 @@ pub fn limit(kind: usize, past: usize) -> (Vec<u8>, Vec<u8>) {
         50 => ("P\n".repeat(16385)[..n(32768)].into(), "PRINT [\"P\"] P(); P() := FALSE();".into()),
         51 => (repeated(n(64) * n(64), |i| format!("On {} {}\n", one_byte(n(64) - 1 - i / n(64)), one_byte(n(64) - 1 - i % n(64)))), "On(x,y) := On(x,y) & x < y;".into()),
         52 => (repeated(n(64), |i| format!("A e{i}\n")), "T(x,y,z); T(\"e0\",x,y) := FALSE(x,y);".into()),
+        // literals by their numbers and by their digits
+        53 => (few, format!("PRINT {}/3;", n(999_999))),
+        54 => (few, format!("PRINT {}, {:0>32};", "0".repeat(n(32)), 999_999)),
+        55 => (few, format!("PRINT 1 + {};", "9".repeat(n(32)))),
+        // summands: of a top, of a bottom, and on the right of a sign
+        56 => (few, format!("PRINT {};", ones(n(8)))),
+        57 => (few, format!("PRINT 2/{};", counts(n(8)))),
+        58 => (few, format!("IF {} <= {}/{} {{ PRINT {}/{}; }}", ones(8), counts(8), ones(n(8)), ones(8), ones(8))),
+        59 => (few, format!("PRINT {}#({} = 8)+1;", "1+".repeat(n(8) - 2), ones(8))),
+        // levels that counts open, and summands at the last level
+        60 => (few, format!("PRINT {}On(x,y){});", "#(".repeat(n(32)), ") > 0".repeat(n(32) - 1))),
+        61 => (few, format!("PRINT {}1 = 0+#(P()){};", "(".repeat(n(32) - 1), ")".repeat(n(32) - 1))),
+        62 => (few, format!("PRINT {}{}#(P()) = 1{};", "(".repeat(n(32)), "1+".repeat(8), ")".repeat(n(32)))),
+        63 => (few, format!("PRINT {}{}1 = 8{};", "(".repeat(n(32)), "1+".repeat(7), ")".repeat(n(32)))),
+        64 => (few, format!("PRINT {}1000000 = 1{};", "(".repeat(n(32)), ")".repeat(n(32)))),
+        // what one count, and one statement, may hold
+        65 => (few, format!("PRINT #(TRUE({}));", names(0, n(3)))),
+        66 => (few, format!("PRINT {};", (0..n(4)).map(|i| format!("#(On(a{i},_))")).collect::<Vec<_>>().join("+"))),
+        67 => (few, format!("PRINT 0{};", ",#(TC(On(x,y)))".repeat(n(16)))),
+        68 => (few, format!("{}PRINT {};", "PRINT 1;".repeat(680), ["1/2+3", "#(P())", "1,2,3,4"][past])),
+        69 => (repeated(n(64), |i| format!("A e{i}\n")), format!("PRINT {0}/999999, [\"t\"] {0}/2 > {0}/3, \" \", #(A(x))/#(x <= y);", ["#(TRUE(x,y,z))"; 8].join("+"))),
         _ => {
             let tables = repeated(16, |r| format!("R{r} e0 e0 e0\n"));
             (format!("{tables}{}", repeated(n(64), |i| format!("R0 e{i} e{} e0\n", (i + 1) % 62))), "R1(x,y,z) := R0(x,z,y); PRINT R1(x,y,z);".into())
@@ -475,12 +530,17 @@ fn faults(r: &mut Random) -> (Vec<u8>, Vec<u8>) {
     let wide = format!("PRINT {}TC(On(x,y));", "TC(On(x,y))&".repeat(16));
     let relations = repeated(15, |i| format!("N{i}(x) := Held(x);"));
     let elements = repeated(64, |i| format!("Held(\"s{i}\");"));
+    let digits = format!("PRINT {};", "0".repeat(33));
+    let ninth = format!("PRINT {}#(On(x));", "1+".repeat(8));
+    let ninth_deep = format!("PRINT {}{}#(P()) = 1{};", "(".repeat(32), "1+".repeat(8), ")".repeat(32));
+    let large_deep = format!("PRINT {}1000000 = 1{};", "(".repeat(33), ")".repeat(33));
+    let closures = format!("PRINT #({}TC(On(x,y)));", "TC(On(x,y))&".repeat(16));
     let lines = [
         "On a b", "Held a", "T a b c", "P", "# c", " ", "On \"a b\" c", ".", "Held \x01", "# \x7f", "7Y a", " Held a", "On\"a\" b", "IF a", "Held \"a",
         "Held a\"", "Held \"a\"b", "On a", "On", "T a b c d", "T a b c d\"", "T a b c \"d", "T a b \"c d", "On a b \"c", "On \"a\" \"b\" \"c\"", "P a",
     ];
     let statements = [
-        "On(x,y) := On(y,x);", "P();", "PRINT Held(x), ENDL;", "FOR c IN Held(x) { PRINT c; }", "{ Held(\"z\"); }", "$", "5", "PRINT \"open", "/* open",
+        "On(x,y) := On(y,x);", "P();", "PRINT Held(x), ENDL;", "FOR c IN Held(x) { PRINT c; }", "{ Held(\"z\"); }", "$", "5.", "PRINT \"open", "/* open",
         "PRINT ABCDEFGHIJKLMNOPQRSTUVWXYZABCDEFG(x);", "\x01", "PRINT \"\x02\";", "PRINT", "On(x,y) := ;", "P() := P() -> P() -> P();", "x = y;", "ELSE",
         "TO();", "PRINT On;", "PRINT x;", "FOR x IN Held(y) { P(); }", "FOR c IN Held(c) { P(); }", "PRINT c;", "c(x);", "PRINT On(On,x);", "P(x);",
         "PRINT On(x);", "PRINT New(x,y,z,a);", "Held(x) := On(x,y);", "PRINT TC(On(x,x));", "IF Held(x) { On(x); }", "WHILE P() { Held(x) := P(); }",
@@ -488,6 +548,9 @@ fn faults(r: &mut Random) -> (Vec<u8>, Vec<u8>) {
         "PRINT @\"a\"(x) & Held(x);", "@", "PRINT @(x);", "PRINT @\"a\"();", "PRINT @\"a\"(x,y);", "FOR c IN Held(x) { PRINT @c(x); }", "PRINT @\"(\"", "@\"*\"(x);",
         "PRINT @\"\"(x);", "PRINT @\"a**\"(x);", "IF FALSE() { PRINT @\"(\"(x); }", "PRINT @\"a\"(_) & @\"[a\"(\"a\");", "PRINT @\"a|\"(On);", "FOR x IN @\")\"(y) { P(); }",
         "FOR c IN @\"a\"(c) { P(); }", "PRINT @\"a\"(On);", "P() := @\"a\"(x);", "P() := @\"\\\"(x);", "IF @\"a\"(x) { P(); }", "PRINT @\"a{0,9}\"(x) & On(x);",
+        "PRINT #(Held(x)) / 2;", "PRINT 1000000;", "PRINT 1000000", "PRINT 1 1000000;", "PRINT On(1000000);", "PRINT #(1000000 = On(x));", "5", "PRINT 1/2/3;", "Held(x) := #(Held(x)) = 1;",
+        "PRINT #(On(x));", "PRINT #(x());", "PRINT #(Held(c)), #(@\"(\"(x));", "PRINT #(TRUE(x,y,z,a));", "PRINT #(TRUE(x,y,z,a)) + #(TRUE(b));", "IF #(TC(Held(x))) = 1 { P(); }", &digits, &ninth,
+        &ninth_deep, &large_deep, &closures,
     ];
     // the first 7 lines and 5 statements have no fault
     let most = if r.one_in(2) { lines.len() } else { 7 };
@@ -538,7 +601,7 @@ fn fewer_facts(facts: &mut Vec<u8>, query: &[u8]) -> u64 {
 }
 
 /// The comparison of this number: first each limit below, at and above it, then limits, shapes, strings entered and printed, relations that
-/// grow and shrink, and random texts, some damaged and some saved with CR LF.
+/// grow and shrink, sums and ratios, and random texts, some damaged and some saved with CR LF.
 pub fn texts(number: u64) -> Texts {
     let r = &mut Random::new(number);
     let limits = 3 * LIMITS as u64;
@@ -550,6 +613,9 @@ pub fn texts(number: u64) -> Texts {
     }
     if number >= limits && r.one_in(8) {
         return resizing(r);
+    }
+    if number >= limits && r.one_in(7) {
+        return sharing(r);
     }
     let (mut facts, mut query) = match number {
         k if k < limits => limit((k / 3) as usize, (k % 3) as usize),
@@ -617,5 +683,24 @@ fn resizing(r: &mut Random) -> Texts {
     let budget = steps.min(8 * NODES / nodes(&facts, &query)) as u32;
     let room = if r.one_in(2) { r.below(40) } else { 4000 };
     let spare = if r.one_in(12) { -1 } else { r.below(4) as i64 };
+    Texts { facts, query, budget, spare, room, elements: r.one_in(8), chains: Vec::new() }
+}
+
+/// Sums and ratios whose steps are short enough; some damaged.
+fn sharing(r: &mut Random) -> Texts {
+    let (facts, query, nodes) = loop {
+        let (facts, mut query) = shares::texts(r);
+        if r.one_in(12) {
+            damage(r, &mut query);
+        }
+        let nodes = nodes(&facts, &query);
+        if nodes <= NODES {
+            break (facts, query, nodes);
+        }
+    };
+    let facts = if r.one_in(12) { saved::facts(r, &facts) } else { facts };
+    let budget = (*r.pick(&[1, 3, 10, 20, 50, 100])).min(8 * NODES / nodes) as u32;
+    let room = if r.one_in(4) { r.below(30) } else { 4000 };
+    let spare = if r.one_in(20) { -1 } else { r.below(4) as i64 };
     Texts { facts, query, budget, spare, room, elements: r.one_in(8), chains: Vec::new() }
 }

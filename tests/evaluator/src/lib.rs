@@ -15,11 +15,13 @@ pub mod nodes;
 pub mod parse;
 pub mod pattern;
 pub mod picked;
+pub mod ratio;
 pub mod read_back;
 pub mod resized;
 pub mod run;
 pub mod saved;
 pub mod shapes;
+pub mod shares;
 pub mod tokens;
 
 use facts::{Element, Facts};
@@ -28,7 +30,7 @@ use names::Names;
 use parse::Stmt;
 use pattern::Pattern;
 use run::{Changes, Ending, Printed, Run};
-use std::cell::OnceCell;
+use std::cell::{OnceCell, RefCell};
 use std::collections::{BTreeMap, BTreeSet};
 use std::ops::Range;
 use tokens::{Kind, Token};
@@ -157,6 +159,8 @@ pub struct Ran {
     pub pages: Vec<usize>,
     pub printed: Printed,
     pub changes: Changes,
+    /// what quantities came to where they were compared or printed
+    pub came_to: BTreeSet<&'static str>,
     /// the relations' words, in store order
     pub tables: Vec<u64>,
     /// how many tuples each relation has
@@ -178,15 +182,23 @@ impl Accepted {
             return Err((14, needed));
         }
         let matching = self.matching.get_or_init(|| self.matching());
-        let world = World { universe: &self.universe, names: &self.names, matching, tables: self.loaded(), variables: BTreeMap::new() };
+        let world = World {
+            universe: &self.universe,
+            names: &self.names,
+            matching,
+            tables: self.loaded(),
+            variables: BTreeMap::new(),
+            came_to: RefCell::default(),
+        };
         let quoted: BTreeSet<usize> =
             self.facts.facts.iter().flat_map(|f| &f.elements).filter(|e| e.quoted).map(|e| self.number(&e.value)).collect();
         let mut run = Run::new(world, quoted, budget, room);
         let ending = run.program(&self.program);
         let tables = self.names.relations.iter().flat_map(|r| self.words(&run.world.tables[&r.name], r.arity)).collect();
         let counts = self.counts(&run.world.tables);
+        let came_to = run.world.came_to.take();
         let Run { steps, output, pages, printed, changes, .. } = run;
-        Ok(Ran { ending, steps, output, pages, printed, changes, tables, counts })
+        Ok(Ran { ending, steps, output, pages, printed, changes, came_to, tables, counts })
     }
     fn element(&self, n: usize) -> [usize; 3] {
         let Some(text) = self.universe.get(n) else {

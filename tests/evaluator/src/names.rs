@@ -1,6 +1,6 @@
 //! Kinds of names, free attributes and what a statement may hold; rows 11, 5, 6, then 13 and 12, then 7.
 use crate::facts::{Facts, Relation};
-use crate::parse::{Expr, Item, Stmt, Term};
+use crate::parse::{Expr, Item, Quantity, Stmt, Term};
 use crate::tokens::Token;
 use crate::Refusal;
 use std::collections::{BTreeMap, BTreeSet};
@@ -83,7 +83,14 @@ impl Names {
                 self.attribute(x)?;
                 self.expression(a)
             }
+            Expr::Weigh(_, a, b) => {
+                self.quantity(a)?;
+                self.quantity(b)
+            }
         }
+    }
+    fn quantity(&mut self, q: &Quantity) -> Res {
+        q.counted().try_for_each(|e| self.expression(e))
     }
     fn statements(&mut self, all: &[Stmt]) -> Res {
         all.iter().try_for_each(|s| self.statement(s))
@@ -105,6 +112,7 @@ impl Names {
                     self.expression(e)
                 }
                 Item::Word(p) => self.word(p),
+                Item::Quantity(q) => self.quantity(q),
                 Item::Endl => Ok(()),
             }),
             Stmt::If(_, e, yes, no) => {
@@ -162,55 +170,23 @@ impl Names {
                 more.insert(x.text.clone());
                 self.add_free(a, &more, found);
             }
-            Expr::Compare(..) => {}
+            Expr::Compare(..) | Expr::Weigh(..) => {}
         }
     }
 
-    /// All attribute names, and what each closure closes.
-    fn survey<'a>(&self, e: &'a Expr, names: &mut BTreeSet<Vec<u8>>, closures: &mut Vec<&'a Expr>) {
-        let mut terms = |ps: &[&Term]| {
-            for p in ps {
-                if let Term::Name(t) = p {
-                    if !self.is_variable(&t.text) {
-                        names.insert(t.text.clone());
-                    }
-                }
-            }
-        };
-        match e {
-            Expr::Atom(_, ps) | Expr::True(ps) | Expr::False(ps) => terms(&ps.iter().collect::<Vec<_>>()),
-            Expr::Sign(_, a, b) => terms(&[a, b]),
-            Expr::Matches(_, a) => terms(&[a]),
-            Expr::Not(a) => self.survey(a, names, closures),
-            Expr::Tc(a) => {
-                closures.push(a);
-                self.survey(a, names, closures);
-            }
-            Expr::Two(_, a, b) | Expr::Compare(_, a, b) => {
-                self.survey(a, names, closures);
-                self.survey(b, names, closures);
-            }
-            Expr::Ex(x, a) | Expr::Fa(x, a) => {
-                names.insert(x.text.clone());
-                self.survey(a, names, closures);
-            }
-        }
+    fn survey<'a>(&'a self, left: &'a [Term], e: &'a Expr) -> Survey<'a> {
+        let mut found = Survey::of(self);
+        found.terms(left);
+        found.expression(e);
+        found
     }
-    fn limits(&self, at: usize, left: &[Term], es: &[&Expr], right: bool) -> Res {
-        let mut names = BTreeSet::new();
-        let mut closures = Vec::new();
-        for p in left {
-            if let Term::Name(t) = p {
-                names.insert(t.text.clone());
-            }
-        }
-        for e in es {
-            self.survey(e, &mut names, &mut closures);
-        }
-        if names.len() > 4 || closures.len() > 16 {
+    fn limits(&self, at: usize, found: Survey, right: bool) -> Res {
+        if found.attributes.len() > 4 || found.closures.len() > 16 {
             return Err((13, at));
         }
-        if !right || closures.iter().any(|e| self.free(e).len() != 2) {
+        let closed = found.closures.iter().all(|e| self.free(e).len() == 2);
+        let counted = found.counted.iter().all(|e| self.free(e).len() <= PRINTED);
+        if !right || !closed || !counted {
             return Err((12, at));
         }
         Ok(())
@@ -222,30 +198,94 @@ impl Names {
                     let mut given = Vec::new();
                     self.add_terms(&left.iter().collect::<Vec<_>>(), &BTreeSet::new(), &mut given);
                     let (given, free): (BTreeSet<_>, BTreeSet<_>) = (given.into_iter().collect(), self.free(e).into_iter().collect());
-                    self.limits(*at, left, &[e], given == free)?;
+                    self.limits(*at, self.survey(left, e), given == free)?;
                 }
                 Stmt::Print(at, items) => {
-                    let es: Vec<&Expr> = items.iter().filter_map(|i| if let Item::Rows(_, e) = i { Some(e) } else { None }).collect();
-                    let right = es.iter().all(|e| self.free(e).len() <= 3);
-                    self.limits(*at, &[], &es, right)?;
+                    let mut found = Survey::of(self);
+                    items.iter().for_each(|i| found.item(i));
+                    let right = items.iter().all(|i| !matches!(i, Item::Rows(_, e) if self.free(e).len() > PRINTED));
+                    self.limits(*at, found, right)?;
                 }
                 Stmt::If(at, e, yes, no) => {
-                    self.limits(*at, &[], &[e], self.free(e).is_empty())?;
+                    self.limits(*at, self.survey(&[], e), self.free(e).is_empty())?;
                     self.rows(yes)?;
                     self.rows(no)?;
                 }
                 Stmt::While(at, e, body) => {
-                    self.limits(*at, &[], &[e], self.free(e).is_empty())?;
+                    self.limits(*at, self.survey(&[], e), self.free(e).is_empty())?;
                     self.rows(body)?;
                 }
                 Stmt::For(at, _, e, body) => {
-                    self.limits(*at, &[], &[e], self.free(e).len() == 1)?;
+                    self.limits(*at, self.survey(&[], e), self.free(e).len() == 1)?;
                     self.rows(body)?;
                 }
                 Stmt::Block(body) => self.rows(body)?,
             }
         }
         Ok(())
+    }
+}
+
+/// Free attributes that a printed expression, or what `#(e)` counts, has at most.
+pub const PRINTED: usize = 3;
+
+/// All attribute names of a statement, what each of its closures closes, and what each `#(e)` counts, wherever it stands.
+struct Survey<'a> {
+    names: &'a Names,
+    attributes: BTreeSet<Vec<u8>>,
+    closures: Vec<&'a Expr>,
+    counted: Vec<&'a Expr>,
+}
+
+impl<'a> Survey<'a> {
+    fn of(names: &'a Names) -> Survey<'a> {
+        Survey { names, attributes: BTreeSet::new(), closures: Vec::new(), counted: Vec::new() }
+    }
+    fn terms(&mut self, ps: impl IntoIterator<Item = &'a Term>) {
+        for p in ps {
+            if let Term::Name(t) = p {
+                if !self.names.is_variable(&t.text) {
+                    self.attributes.insert(t.text.clone());
+                }
+            }
+        }
+    }
+    fn expression(&mut self, e: &'a Expr) {
+        match e {
+            Expr::Atom(_, ps) | Expr::True(ps) | Expr::False(ps) => self.terms(ps),
+            Expr::Sign(_, a, b) => self.terms([a, b]),
+            Expr::Matches(_, a) => self.terms([a]),
+            Expr::Not(a) => self.expression(a),
+            Expr::Tc(a) => {
+                self.closures.push(a);
+                self.expression(a);
+            }
+            Expr::Two(_, a, b) | Expr::Compare(_, a, b) => {
+                self.expression(a);
+                self.expression(b);
+            }
+            Expr::Ex(x, a) | Expr::Fa(x, a) => {
+                self.attributes.insert(x.text.clone());
+                self.expression(a);
+            }
+            Expr::Weigh(_, a, b) => {
+                self.quantity(a);
+                self.quantity(b);
+            }
+        }
+    }
+    fn quantity(&mut self, q: &'a Quantity) {
+        for e in q.counted() {
+            self.counted.push(e);
+            self.expression(e);
+        }
+    }
+    fn item(&mut self, i: &'a Item) {
+        match i {
+            Item::Rows(_, e) => self.expression(e),
+            Item::Quantity(q) => self.quantity(q),
+            Item::Word(_) | Item::Endl => {}
+        }
     }
 }
 

@@ -1,5 +1,5 @@
 //! How many nodes a plain evaluation of one statement visits at most: generated runs are cut short by it.
-use crate::parse::{Expr, Item, Stmt, Term};
+use crate::parse::{Expr, Item, Quantity, Stmt, Term};
 use crate::Accepted;
 
 impl Accepted {
@@ -36,7 +36,19 @@ impl Accepted {
                 columns.dedup();
                 both(a, b, 2 * self.power(columns.len()))
             }
+            Expr::Weigh(_, a, b) => {
+                let (a, b) = (self.quantity(a), self.quantity(b));
+                (a.0.saturating_add(b.0), a.1.saturating_add(b.1))
+            }
         }
+    }
+    /// A count visits what it counts at each assignment.
+    fn quantity(&self, q: &Quantity) -> (u64, u64) {
+        q.counted().fold((1, 0), |(nodes, closures), e| {
+            let (n, c) = self.of(e);
+            let counted = self.power(self.names.free(e).len()).saturating_mul(n);
+            (nodes.saturating_add(counted), closures.saturating_add(c))
+        })
     }
     fn times(&self, e: &Expr, n: usize) -> u64 {
         let (nodes, closures) = self.of(e);
@@ -46,8 +58,15 @@ impl Accepted {
         let one = |s: &Stmt| match s {
             Stmt::Assign(_, _, left, e) => self.times(e, left.len()),
             Stmt::Print(_, items) => {
-                let rows = items.iter().map(|i| if let Item::Rows(_, e) = i { 2 * self.times(e, self.names.free(e).len()) } else { 1 });
-                rows.fold(0, u64::saturating_add)
+                let one = |i: &Item| match i {
+                    Item::Rows(_, e) => self.times(e, self.names.free(e).len()).saturating_mul(2),
+                    Item::Quantity(q) => {
+                        let (nodes, closures) = self.quantity(q);
+                        nodes.saturating_add(closures).saturating_mul(2)
+                    }
+                    Item::Word(_) | Item::Endl => 1,
+                };
+                items.iter().map(one).fold(0, u64::saturating_add)
             }
             Stmt::If(_, e, yes, no) => self.times(e, 0).max(self.most(yes)).max(self.most(no)),
             Stmt::While(_, e, body) => self.times(e, 0).max(self.most(body)),

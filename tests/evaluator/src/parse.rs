@@ -1,4 +1,4 @@
-//! Programs by recursive descent; rows 10 and 13 (nesting).
+//! Programs by recursive descent; rows 10, 19 and 13 (nesting).
 use crate::tokens::{Kind, Token};
 use crate::Refusal;
 
@@ -23,12 +23,41 @@ pub enum Expr {
     Fa(Token, Box<Expr>),
     Tc(Box<Expr>),
     Compare(&'static str, Box<Expr>, Box<Expr>),
+    /// a sign between sums or ratios
+    Weigh(&'static str, Quantity, Quantity),
+}
+
+#[derive(Clone, Debug)]
+pub enum Summand {
+    /// `#(e)`
+    Count(Box<Expr>),
+    Literal(u128),
+}
+
+pub type Sum = Vec<Summand>;
+
+/// A sum, or a sum over a sum.
+#[derive(Clone, Debug)]
+pub struct Quantity {
+    pub top: Sum,
+    pub bottom: Option<Sum>,
+}
+
+impl Quantity {
+    pub fn summands(&self) -> impl Iterator<Item = &Summand> {
+        self.top.iter().chain(self.bottom.iter().flatten())
+    }
+    /// What its `#(e)` count, in text order.
+    pub fn counted(&self) -> impl Iterator<Item = &Expr> {
+        self.summands().filter_map(|s| if let Summand::Count(e) = s { Some(&**e) } else { None })
+    }
 }
 
 #[derive(Clone, Debug)]
 pub enum Item {
     Rows(Option<Term>, Expr),
     Word(Term),
+    Quantity(Quantity),
     Endl,
 }
 
@@ -43,6 +72,8 @@ pub enum Stmt {
 }
 
 const SIGNS: [&str; 6] = ["=", "!=", "<", "<=", ">", ">="];
+pub const SUMMANDS: usize = 8;
+pub const LARGEST_LITERAL: u128 = 999_999;
 
 struct Parser<'a> {
     tokens: &'a [Token],
@@ -239,7 +270,58 @@ impl Parser<'_> {
         self.next += 1;
         Ok(Expr::Two(s, Box::new(a), Box::new(self.disjunction()?)))
     }
+    fn starts_quantity(&self) -> bool {
+        matches!(self.kind(0), Some(Kind::Fixed("#") | Kind::Number))
+    }
+    /// The next summand of a sum that has so many: at its first token 10, then 19, then 13.
+    fn summand(&mut self, before: usize) -> Res<Summand> {
+        if !self.starts_quantity() {
+            return self.fail();
+        }
+        if before == SUMMANDS {
+            return Err((19, self.place()));
+        }
+        if self.is("#") {
+            self.open()?;
+            self.expect("(")?;
+            let e = self.expression()?;
+            self.expect(")")?;
+            self.depth -= 1;
+            return Ok(Summand::Count(Box::new(e)));
+        }
+        let token = self.take();
+        let value = token.text.iter().fold(0, |n, digit| 10 * n + (digit - b'0') as u128);
+        if value > LARGEST_LITERAL {
+            return Err((19, token.at));
+        }
+        Ok(Summand::Literal(value))
+    }
+    fn sum(&mut self) -> Res<Sum> {
+        let mut all = vec![self.summand(0)?];
+        while self.is("+") {
+            self.next += 1;
+            all.push(self.summand(all.len())?);
+        }
+        Ok(all)
+    }
+    fn quantity(&mut self) -> Res<Quantity> {
+        let top = self.sum()?;
+        if !self.is("/") {
+            return Ok(Quantity { top, bottom: None });
+        }
+        self.next += 1;
+        Ok(Quantity { top, bottom: Some(self.sum()?) })
+    }
+    /// The rest of a comparison of sums or ratios, which is a whole expression.
+    fn weighed(&mut self, a: Quantity) -> Res<Expr> {
+        let s = self.sign()?;
+        Ok(Expr::Weigh(s, a, self.quantity()?))
+    }
     fn expression(&mut self) -> Res<Expr> {
+        if self.starts_quantity() {
+            let a = self.quantity()?;
+            return self.weighed(a);
+        }
         let a = self.implication()?;
         let Some(s) = self.one_of(&SIGNS) else {
             return Ok(a);
@@ -258,6 +340,11 @@ impl Parser<'_> {
             let s = self.left()?;
             self.expect("]")?;
             return Ok(Item::Rows(Some(s), self.expression()?));
+        }
+        if self.starts_quantity() {
+            let a = self.quantity()?;
+            let alone = self.one_of(&SIGNS).is_none();
+            return Ok(if alone { Item::Quantity(a) } else { Item::Rows(None, self.weighed(a)?) });
         }
         let word = matches!(self.kind(0), Some(Kind::Identifier | Kind::Quoted));
         let alone = matches!(self.kind(1), Some(Kind::Fixed("," | ";")));

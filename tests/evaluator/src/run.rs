@@ -120,6 +120,7 @@ impl Run<'_> {
                 let word = self.bare(p, &mut page.printed.as_items);
                 page.bytes.extend(word);
             }
+            Item::Quantity(q) => page.bytes.extend(self.world.quantity_text(q).bytes()),
             Item::Rows(label, e) => {
                 for row in self.world.eval(e).rows {
                     let mut parts: Vec<Vec<u8>> = label.iter().map(|p| self.bare(p, &mut page.printed.as_labels)).collect();

@@ -1,13 +1,13 @@
 //! Accepted texts in which each form of an expression is met often, over universes of 0 to 64 elements: quantifiers that hide
 //! or bind nothing, "_", strings, loop variables and repeated attributes in each place, closures and relation comparisons under
-//! quantifiers, joins of several atoms, and every kind of left side and printed column.
+//! quantifiers, joins of several atoms, sums and ratios of counts, and every kind of left side and printed column.
 use crate::generate::Random;
-use crate::{entered, picked};
+use crate::shares::SIGNS;
+use crate::{entered, picked, shares};
 
 const RELATIONS: [(&str, usize); 8] = [("On", 2), ("Held", 1), ("T", 3), ("Dep", 2), ("P", 0), ("All", 1), ("Q", 2), ("R", 1)];
 const ATTRIBUTES: [&str; 4] = ["x", "y", "z", "w"];
 const VARIABLES: [&str; 2] = ["c", "v"];
-const SIGNS: [&str; 6] = ["=", "!=", "<", "<=", ">", ">="];
 /// Universes: the smallest and the largest often, since a word has 64 bits.
 const SIZES: [usize; 16] = [0, 1, 1, 2, 2, 3, 5, 8, 16, 33, 62, 63, 63, 64, 64, 64];
 /// More rows than this a result should not have, most times: a universe of 64 elements takes two attributes, one of 16 three.
@@ -193,6 +193,10 @@ impl Writer<'_> {
             2..=4 => self.join(),
             5..=7 => self.quantifier(d - 1),
             8 if self.attributes > 1 && self.closures < 8 => self.closure(d - 1),
+            9 if self.r.one_in(3) => {
+                let (s, a, b) = (*self.r.pick(&SIGNS), self.quantity(d - 1), self.quantity(d - 1));
+                Expression { text: format!("({a} {s} {b})"), free: Vec::new() }
+            }
             9 => {
                 let (s, a, b) = (*self.r.pick(&SIGNS), self.expression(d - 1), self.expression(d - 1));
                 Expression { text: format!("({} {s} {})", a.text, b.text), free: Vec::new() }
@@ -207,6 +211,14 @@ impl Writer<'_> {
                 Expression { text: format!("({} {o} {})", a.text, b.text), free: joined(a.free, &b.free) }
             }
         }
+    }
+    fn quantity(&mut self, d: usize) -> String {
+        let counted: Vec<String> = (0..1 + self.r.below(2)).map(|_| self.counted(d)).collect();
+        shares::quantity_of(self.r, &counted)
+    }
+    fn counted(&mut self, d: usize) -> String {
+        let e = self.expression(d);
+        self.with_free(e, 0, 3).text
     }
     fn fresh(&mut self, least: usize, most: usize) -> Expression {
         let d = 1 + self.r.below(if self.given > 16 { 3 } else { 4 });
@@ -234,6 +246,7 @@ impl Writer<'_> {
         match self.r.below(10) {
             0 => "ENDL".into(),
             1 => self.word(),
+            2 if self.r.one_in(2) => self.quantity(1),
             k => {
                 let most = self.r.below(4);
                 let e = self.fresh(most.min(self.attributes), most);

@@ -6,6 +6,8 @@ use crate::Refusal;
 pub enum Kind {
     Identifier,
     Quoted,
+    /// a run of digits
+    Number,
     /// a reserved word, a mark, or "_"
     Fixed(&'static str),
 }
@@ -18,8 +20,9 @@ pub struct Token {
     pub at: usize,
 }
 
-const MARKS: [&str; 21] =
-    ["<->", "->", "<=", ">=", "!=", ":=", "(", ")", "{", "}", "[", "]", ",", ";", "&", "|", "!", "=", "<", ">", "@"];
+const MARKS: [&str; 24] = [
+    "<->", "->", "<=", ">=", "!=", ":=", "(", ")", "{", "}", "[", "]", ",", ";", "&", "|", "!", "=", "<", ">", "@", "#", "+", "/",
+];
 const WORDS: [&str; 26] = [
     "AVG", "DIV", "ELSE", "ENDL", "EX", "EXEC", "EXIT", "FA", "FOR", "IF", "IN", "MAX", "MIN", "MOD", "NUMBER", "PRINT",
     "RELINFO", "STDERR", "STRING", "SUM", "TC", "TCFAST", "TO", "WHILE", "TRUE", "FALSE",
@@ -61,6 +64,11 @@ fn piece(s: &[u8], i: usize) -> Option<(usize, Option<Token>)> {
             return None;
         }
         return Some((i + n + 2, token(Kind::Quoted, &rest[1..n + 1])));
+    }
+    if b.is_ascii_digit() {
+        let n = rest.iter().position(|b| !b.is_ascii_digit()).unwrap_or(rest.len());
+        // row 9 speaks of tokens over 32 bytes and leaves out no kind
+        return (n <= 32).then(|| (i + n, token(Kind::Number, &rest[..n])));
     }
     let mark = MARKS.iter().find(|m| rest.starts_with(m.as_bytes()))?;
     Some((i + mark.len(), token(Kind::Fixed(mark), mark.as_bytes())))

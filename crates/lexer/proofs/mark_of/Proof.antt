@@ -99,7 +99,19 @@ unfolding first-mark marks starts terminal-of sign-of quote-of
 returns-17 c = is-mark refl (c .match .keys17) (record { piece = λ xs. refl; small = small 49 1 tt tt })
 
 returns-18 : tie.Need-returns-18
-returns-18 c = let a = c .before .args in no-mark (a .x) (a .y) (a .z) (c .match .rest)
+unfolding first-mark marks starts terminal-of sign-of quote-of
+returns-18 c = is-mark refl (c .match .keys18) (record { piece = λ xs. refl; small = small 50 1 tt tt })
+
+returns-19 : tie.Need-returns-19
+unfolding first-mark marks starts terminal-of sign-of quote-of
+returns-19 c = is-mark refl (c .match .keys19) (record { piece = λ xs. refl; small = small 51 1 tt tt })
+
+returns-20 : tie.Need-returns-20
+unfolding first-mark marks starts terminal-of sign-of quote-of
+returns-20 c = is-mark refl (c .match .keys20) (record { piece = λ xs. refl; small = small 52 1 tt tt })
+
+returns-21 : tie.Need-returns-21
+returns-21 c = let a = c .before .args in no-mark (a .x) (a .y) (a .z) (c .match .rest)
 
 pub mark-of-spec : {M : Type 1} → statement M
 mark-of-spec =
@@ -128,4 +140,7 @@ mark-of-spec =
     returns-15
     returns-16
     returns-17
-    returns-18)
+    returns-18
+    returns-19
+    returns-20
+    returns-21)

@@ -3,8 +3,7 @@ use Rattle.lexer.proofs.segment_at.Statement.{statement}
 use Rattle.lexer.proofs.segment_at.Tie as tie
 use mathlib.Core.Path.{sym, _∙_}
 use denote.Ref.{now}
-use lib.ListN.{drop}
-use Rattle.lexer.proofs.Pieces.{separator, letter, quote, mark}
+use Rattle.lexer.proofs.Pieces.{separator, letter, digit, quote, mark}
 
 shared-slice-read-x : tie.Need-shared-slice-read-x
 shared-slice-read-x c = search needs
@@ -14,8 +13,8 @@ separates-requires c κs = search needs
 
 returns : tie.Need-returns
 returns c =
-    let a = c .before .before .before .before .args in
-    (separator (now (a .text)) (a .at) (c .before .before .before .before .pre) (sym (c .before .separates .ensures) ∙ c .if1 .taken), tt)
+    let s = c .before .before .before .before in
+    (separator (now (s .args .text)) (s .args .at) (s .pre) (sym (c .before .separates .ensures) ∙ c .if1 .taken), tt)
 
 slash-at-requires : tie.Need-slash-at-requires
 slash-at-requires c κs = search needs
@@ -31,45 +30,46 @@ word-at-requires c κs = search needs
 
 returns-3 : tie.Need-returns-3
 returns-3 c =
-    let a = c .before .before .before .before .before .before .before .before .args in (
-      c .word-at .ensures .0 ∙ letter (now (a .text)) (a .at) (c .before .before .before .before .before .before .before .before .pre) (sym (c .before .before .before .before .before .separates .ensures) ∙ c .before .before .before .before .if1 .left) (c .before .before .before .if2 .left) (sym (c .before .before .is-letter .ensures) ∙ c .before .if3 .taken),
-      c .word-at .ensures .1,
-    )
+    let s = c .before .before .before .before .before .before .before .before in
+    let black = sym (c .before .before .before .before .before .separates .ensures) ∙ c .before .before .before .before .if1 .left in
+    let begins = sym (c .before .before .is-letter .ensures) ∙ c .before .if3 .taken in
+    (c .word-at .ensures .0 ∙ letter (now (s .args .text)) (s .args .at) (s .pre) black (c .before .before .before .if2 .left) begins, c .word-at .ensures .1)
+
+of-class-requires : tie.Need-of-class-requires
+of-class-requires c κs = search needs
+
+digits-at-requires : tie.Need-digits-at-requires
+digits-at-requires c κs = search needs
+
+returns-4 : tie.Need-returns-4
+returns-4 c =
+    let s = c .before .before .before .before .before .before .before .before .before .before in
+    let black = sym (c .before .before .before .before .before .before .before .separates .ensures) ∙ c .before .before .before .before .before .before .if1 .left in
+    let other = sym (c .before .before .before .before .is-letter .ensures) ∙ c .before .before .before .if3 .left in
+    let begins = sym (c .before .before .of-class .ensures) ∙ c .before .if4 .taken in
+    (c .digits-at .ensures .0 ∙ digit (now (s .args .text)) (s .args .at) (s .pre) black (c .before .before .before .before .before .if2 .left) other begins, c .digits-at .ensures .1)
 
 string-at-requires : tie.Need-string-at-requires
 string-at-requires c κs = search needs
 
-returns-4 : tie.Need-returns-4
-returns-4 c =
-    let a = c .before .before .before .before .before .before .before .before .before .args in (
-      c .string-at .ensures .0 ∙ quote (now (a .text)) (a .at) (c .before .before .before .before .before .before .before .before .before .pre) (sym (c .before .before .before .before .before .before .separates .ensures) ∙ c .before .before .before .before .before .if1 .left) (c .before .before .before .before .if2 .left) (sym (c .before .before .before .is-letter .ensures) ∙ c .before .before .if3 .left) (c .before .if4 .taken),
-      c .string-at .ensures .1,
-    )
-
-add-byte-at : tie.Need-add-byte-at
-add-byte-at c = search needs
-
-byte-at-requires : tie.Need-byte-at-requires
-byte-at-requires c κs = search needs
-
-add-byte-at-2 : tie.Need-add-byte-at-2
-add-byte-at-2 c = search needs
-
-byte-at-requires-2 : tie.Need-byte-at-requires-2
-byte-at-requires-2 c κs = search needs
-
-mark-of-requires : tie.Need-mark-of-requires
-mark-of-requires c κs = search needs
-
 returns-5 : tie.Need-returns-5
 returns-5 c =
-    let a = c .before .before .before .before .before .before .before .before .before .before .before .args in
-    let t = now (a .text) in (
-      c .mark-of .ensures .piece (drop (a .at) t)
-          ∙ rw (c .before .before .byte-at .ensures, c .before .byte-at2 .ensures)
-          (mark t (a .at) (c .before .before .before .before .before .before .before .before .before .before .before .pre) (sym (c .before .before .before .before .before .before .before .before .separates .ensures) ∙ c .before .before .before .before .before .before .before .if1 .left) (c .before .before .before .before .before .before .if2 .left) (sym (c .before .before .before .before .before .is-letter .ensures) ∙ c .before .before .before .before .if3 .left) (c .before .before .before .if4 .left)),
-      c .mark-of .ensures .small,
-    )
+    let s = c .before .before .before .before .before .before .before .before .before .before .before in
+    let black = sym (c .before .before .before .before .before .before .before .before .separates .ensures) ∙ c .before .before .before .before .before .before .before .if1 .left in
+    let other = sym (c .before .before .before .before .before .is-letter .ensures) ∙ c .before .before .before .before .if3 .left in
+    let none = sym (c .before .before .before .of-class .ensures) ∙ c .before .before .if4 .left in
+    (c .string-at .ensures .0 ∙ quote (now (s .args .text)) (s .args .at) (s .pre) black (c .before .before .before .before .before .before .if2 .left) other none (c .before .if5 .taken), c .string-at .ensures .1)
+
+mark-at-requires : tie.Need-mark-at-requires
+mark-at-requires c κs = search needs
+
+returns-6 : tie.Need-returns-6
+returns-6 c =
+    let s = c .before .before .before .before .before .before .before .before .before .before .before in
+    let black = sym (c .before .before .before .before .before .before .before .before .separates .ensures) ∙ c .before .before .before .before .before .before .before .if1 .left in
+    let other = sym (c .before .before .before .before .before .is-letter .ensures) ∙ c .before .before .before .before .if3 .left in
+    let none = sym (c .before .before .before .of-class .ensures) ∙ c .before .before .if4 .left in
+    (c .mark-at .ensures .0 ∙ mark (now (s .args .text)) (s .args .at) (s .pre) black (c .before .before .before .before .before .before .if2 .left) other none (c .before .if5 .left), c .mark-at .ensures .1)
 
 pub segment-at-spec : {M : Type 1} → statement M
 segment-at-spec =
@@ -83,11 +83,10 @@ segment-at-spec =
     is-letter-requires
     word-at-requires
     returns-3
-    string-at-requires
+    of-class-requires
+    digits-at-requires
     returns-4
-    add-byte-at
-    byte-at-requires
-    add-byte-at-2
-    byte-at-requires-2
-    mark-of-requires
-    returns-5)
+    string-at-requires
+    returns-5
+    mark-at-requires
+    returns-6)

@@ -45,12 +45,17 @@ returns-2 c =
       tt,
     )
 
+mark-at-requires : tie.Need-mark-at-requires
+mark-at-requires c κs = search needs
+
 returns-3 : tie.Need-returns-3
 returns-3 c =
-    let a = c .before .before .before .before .args in
-    let h = c .before .before .before .before .pre in
-    let y = c .before .before .byte-at .ensures in
-    (no-comment (now (a .text)) (a .at) (h .0) (h .1) (λ e. c .if2 .left (y ∙ e)) (λ e. c .before .if1 .left (y ∙ e)), tt)
+    let a = c .before .before .before .before .before .args in
+    let h = c .before .before .before .before .before .pre in
+    let y = c .before .before .before .byte-at .ensures in (
+      c .mark-at .ensures .0 ∙ no-comment (now (a .text)) (a .at) (h .0) (h .1) (λ e. c .before .if2 .left (y ∙ e)) (λ e. c .before .before .if1 .left (y ∙ e)),
+      c .mark-at .ensures .1,
+    )
 
 pub slash-at-spec : {M : Type 1} → statement M
 slash-at-spec =
@@ -63,4 +68,5 @@ slash-at-spec =
     run-end-requires
     sub-t8
     returns-2
+    mark-at-requires
     returns-3)

@@ -3,7 +3,7 @@ use mathlib.Core.Path.{_≡_, refl, sym}
 use lib.ListN.{length, length-set}
 use native.Mathlib.Omega.{arith}
 use borrow.Author.Needs.{needs}
-use Rattle.lowering.specs.Lowering.{at, halves, closures-before, lower-at, Filled}
+use Rattle.lowering.specs.Lowering.{at, token-values, closures-before, lower-at, Filled}
 use Rattle.lowering.proofs.Filling.{none-before, closures-on, filled-start, filled-on, part-word, filled-end}
 use Rattle.lowering.proofs.lower_part.Statement.{statement}
 use Rattle.lowering.proofs.lower_part.Tie as tie
@@ -11,7 +11,7 @@ use Rattle.lowering.proofs.lower_part.Tie as tie
 abbrev Inv-loop : tie.InvT-loop
 Inv-loop facts query places words codes tokens free low₀ u lo hi c₀ k₀ low c k =
     (lo ≤ k) × (k ≤ hi) × (c ≤ k) × (length low ≡ length low₀) × (c ≡ closures-before (at words) lo k)
-    × Filled (lower-at (at words) (at codes) (at tokens) (at free) (halves facts query places (at tokens)) u lo) lo k low₀ low
+    × Filled (lower-at (at words) (at codes) (at tokens) (at free) (token-values facts query places (at tokens)) u lo) lo k low₀ low
 
 abbrev μ-loop : tie.MeasureT-loop
 μ-loop facts query places words codes tokens free low₀ u lo hi c₀ k₀ low c k = hi - k

@@ -6,14 +6,14 @@ use Rattle.page.proofs.put_number.Tie as tie
 put-requires : tie.Need-put-requires
 put-requires c κs = search needs
 
-put-digits-requires : tie.Need-put-digits-requires
-put-digits-requires c κs = search needs
+put-decimal-requires : tie.Need-put-decimal-requires
+put-decimal-requires c κs = search needs
 
 same-length : tie.Need-same-length
 same-length c = search needs
 
 returns : tie.Need-returns
-returns c = put-then (c .before .before .before .before .before .before .put .ensures) (c .before .before .put-digits .ensures)
+returns c = put-then (c .before .before .before .before .before .before .put .ensures) (c .before .before .put-decimal .ensures)
 
 pub put-number-spec : {M : Type 1} → statement M
-put-number-spec = tie.close (tie.spec put-requires put-digits-requires same-length returns)
+put-number-spec = tie.close (tie.spec put-requires put-decimal-requires same-length returns)

@@ -1,7 +1,6 @@
 use native.Mathlib.Omega.{arith}
 use mathlib.Core.Path.{sym, _∙_}
 use Rattle.simple.proofs.ItemLaws.{name-word, string-word, endl-item}
-use Rattle.simple.specs.Statements.{another}
 use borrow.Author.Needs.{needs}
 use Rattle.simple.proofs.item.Statement.{statement}
 use Rattle.simple.proofs.item.Tie as tie
@@ -12,8 +11,8 @@ word-item-requires c κs = (name-word (sym (c .before .before .kind-at .ensures)
 word-item-requires-2 : tie.Need-word-item-requires-2
 word-item-requires-2 c κs = (string-word (sym (c .before .before .kind-at .ensures) ∙ c .before .match .keys4), c .before .before .before .before .before .pre)
 
-expression-item-requires : tie.Need-expression-item-requires
-expression-item-requires c κs = (another (λ e. c .before .match .rest .0 .1 (c .before .before .kind-at .ensures ∙ e)) (λ e. c .before .match .rest .1 (c .before .before .kind-at .ensures ∙ e)) (λ e. c .before .match .rest .0 .0 .0 .1 (c .before .before .kind-at .ensures ∙ e)) (λ e. c .before .match .rest .0 .0 .1 (c .before .before .kind-at .ensures ∙ e)), c .before .before .before .before .before .pre)
+other-item-requires : tie.Need-other-item-requires
+other-item-requires c κs = (record { no-name = λ e. c .before .match .rest .0 .1 (c .before .before .kind-at .ensures ∙ e); no-string = λ e. c .before .match .rest .1 (c .before .before .kind-at .ensures ∙ e); no-label = λ e. c .before .match .rest .0 .0 .0 .1 (c .before .before .kind-at .ensures ∙ e); no-endl = λ e. c .before .match .rest .0 .0 .1 (c .before .before .kind-at .ensures ∙ e) }, c .before .before .before .before .before .pre)
 
 returns-2 : tie.Need-returns-2
 returns-2 c = endl-item _ _ _ _ (c .before .before .before .before .before .args .words .now) (omega arith) (sym (c .before .before .kind-at .ensures) ∙ c .before .match .keys2) (c .pack .ensures)
@@ -31,7 +30,7 @@ item-spec =
     (λ c. search needs)
     word-item-requires
     word-item-requires-2
-    expression-item-requires
+    other-item-requires
     (λ c. search needs)
     (λ c. search needs)
     (λ c. search needs)

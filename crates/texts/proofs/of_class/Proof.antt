@@ -3,6 +3,7 @@ use Rattle.texts.proofs.of_class.Statement.{statement}
 use Rattle.texts.proofs.of_class.Tie as tie
 use mathlib.Core.Path.{_∙_}
 use borrow.Author.Tests.{eq-eqb, ne-eqb}
+use Rattle.definition.specs.Text.{is-digit}
 
 enum-told : tie.Need-enum-told
 enum-told c = search needs
@@ -55,6 +56,12 @@ returns-2 c = simp (c .before .enum-told9 .given .1, eq-eqb _ _ (c .if2 .taken))
 is-blank-requires-3 : tie.Need-is-blank-requires-3
 is-blank-requires-3 c κs = search needs
 
+enum-told-10 : tie.Need-enum-told-10
+enum-told-10 c = search needs
+
+is-between-requires-2 : tie.Need-is-between-requires-2
+is-between-requires-2 c κs = search needs
+
 returns-3 : tie.Need-returns-3
 returns-3 c = c .is-blank .ensures ∙ simp (c .before .enum-told .given .1)
 
@@ -82,6 +89,10 @@ returns-10 c = simp (c .before .enum-told8 .given .1, ne-eqb _ _ (c .if1 .left))
 returns-11 : tie.Need-returns-11
 returns-11 c = simp (c .before .before .enum-told9 .given .1, ne-eqb _ _ (c .before .if2 .left), c .is-blank3 .ensures)
 
+returns-12 : tie.Need-returns-12
+unfolding is-digit
+returns-12 c = c .is-between2 .ensures ∙ simp (c .before .enum-told10 .given .1)
+
 pub of-class-spec : {M : Type 1} → statement M
 of-class-spec =
     tie.close
@@ -103,6 +114,8 @@ of-class-spec =
     enum-told-9
     returns-2
     is-blank-requires-3
+    enum-told-10
+    is-between-requires-2
     returns-3
     returns-4
     returns-5
@@ -111,4 +124,5 @@ of-class-spec =
     returns-8
     returns-9
     returns-10
-    returns-11)
+    returns-11
+    returns-12)

@@ -1,6 +1,6 @@
 //! How many generated texts are accepted, how the others are refused, which forms the accepted ones have, which elements they print,
-//! how large relations become and which are read back, what malformed patterns come to, and where bytes 13 stand: what the comparisons
-//! reach.
+//! what ratios come to, how large relations become and which are read back, what malformed patterns and numbers come to, and where
+//! bytes 13 stand: what the comparisons reach.
 use evaluator::calculator::Evaluator;
 use evaluator::generate::{texts, Texts, LIMITS};
 use evaluator::read_back::relations;
@@ -14,6 +14,7 @@ fn reached(t: &Texts, w: &Accepted) -> Vec<String> {
         found.extend(forms::printed(w, &ran));
         found.push(forms::counts(w, &ran));
         found.extend(forms::changes(&ran));
+        found.extend(ran.came_to.iter().map(|what| what.to_string()));
     }
     found.extend(relations(&Evaluator, t, w).unwrap_or_else(|e| vec![format!("read back: {e}")]));
     found.extend(counted::relations(&Evaluator, t).err().map(|e| format!("counted: {e}")));
@@ -31,6 +32,7 @@ fn main() {
             *tally.entry("byte 13 in the query".into()).or_default() += 1;
         }
         forms::malformed(&t.facts, &t.query).into_iter().for_each(|how| *tally.entry(how).or_default() += 1);
+        forms::numbers(&t.facts, &t.query).into_iter().for_each(|what| *tally.entry(what).or_default() += 1);
         if let Ok(w) = &accepted {
             reached(&t, w).into_iter().for_each(|form| *tally.entry(form).or_default() += 1);
         }

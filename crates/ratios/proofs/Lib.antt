@@ -1,0 +1,2 @@
+-- Laws of the greatest common divisor.
+pub mod Euclid
