@@ -290,6 +290,55 @@ def counting():
     table(["query", "lines", "run", "less loading"], rows)
 
 
+def first_chain(pairs, first, second):
+    """One element more each turn, from the first on: of the lists that newly reach an element the smallest stays."""
+    reached = {}
+    last = {first: [first]}
+    while last and second not in reached:
+        lists = sorted(chain + [b] for a, chain in last.items() for x, b in pairs if x == a)
+        last = {chain[-1]: chain for chain in reversed(lists) if chain[-1] not in reached}
+        reached.update(last)
+    return reached.get(second)
+
+
+def longest(pairs):
+    """Two elements whose first chain has as many elements as any, and two without a chain, if there are such."""
+    asked = [(a, b) for a in ELEMENTS for b in ELEMENTS]
+    chains = {q: first_chain(pairs, *q) for q in asked}
+    most = max(len(c) for c in chains.values() if c)
+    return next(q for q in asked if chains[q] and len(chains[q]) == most), next((q for q in asked if not chains[q]), None)
+
+
+def questions():
+    """Facts, their pairs, and two elements: in those of the first table a pair, a chain as long as any, and none; a ring, which has the longest of
+    all; and facts at the length limit."""
+    book = facts(ELEMENTS, PAIRS, HELD)
+    far, apart = longest(PAIRS)
+    for name, ends in (("a pair", PAIRS[0]), ("the longest", far), ("none", apart)):
+        yield f"{name}, {len(PAIRS)} pairs", book, PAIRS, *ends
+    ring = list(zip(ELEMENTS, ELEMENTS[1:] + ELEMENTS[:1]))
+    yield "round a ring, 64 pairs", facts([], ring, []), ring, "e00", "e00"
+    lines = [(f"e{i % 64:02d}", f"e{i * 7 % 61:02d}") for i in range(LENGTH // 11)]
+    pairs = sorted(set(lines))
+    yield f"the longest, {len(lines):,} lines", facts([], lines, []), pairs, *longest(pairs)[0]
+
+
+def chaining():
+    """Each answer must be what Python finds. A name that is not there is refused as soon as the facts are read."""
+    rows = []
+    for name, text, pairs, a, b in questions():
+        path = file("facts.rsf", text)
+        numbers = sorted({e for line in text.splitlines() for e in line.split()[1:]})
+        chain = first_chain(pairs, a, b)
+        want = " ".join(str(numbers.index(e)) for e in chain) if chain else "refused 17 0"
+        (taken,), got = program(os.path.join(to, "chain"), path, "On", a, b)
+        if got != [want]:
+            sys.exit(f"chain, {name}: {got} and not {want}")
+        (reading,), _ = program(os.path.join(to, "chain"), path, "Under", a, b)
+        rows.append([name, str(len(chain)) if chain else "refused 17", f"{taken:,.1f}", f"{taken - reading:,.1f}"])
+    table(["chain", "elements", "call", "less reading"], rows)
+
+
 print(f"SQLite {sqlite3.sqlite_version}, Python {sys.version.split()[0]}; shortest times in microseconds\n")
 compared()
 print()
@@ -300,3 +349,5 @@ print()
 picking()
 print()
 counting()
+print()
+chaining()

@@ -1,25 +1,13 @@
 /* relcalc FACTS QUERY: the shortest time of a check and of a run over two files, in microseconds, then the page that the run printed. */
 #define _POSIX_C_SOURCE 200809L
+#include "files.h"
 #include "relcalc.h"
 #include "timing.h"
 
 #include <stdio.h>
-#include <stdlib.h>
 
 static uint8_t facts[RELCALC_FACTS_BYTES + 1], query[RELCALC_QUERY_BYTES + 1], output[1 << 20];
 static uint64_t store[RELCALC_STORE_WORDS];
-
-static size_t read_file(const char *name, uint8_t *to, size_t room)
-{
-    FILE *file = fopen(name, "rb");
-    if (!file) {
-        perror(name);
-        exit(2);
-    }
-    size_t n = fread(to, 1, room, file);
-    fclose(file);
-    return n;
-}
 
 int main(int count, char **words)
 {

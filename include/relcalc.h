@@ -140,10 +140,13 @@ typedef struct {
     uint64_t count; /* numbers written, 2 to 65 */
 } relcalc_chained;
 
-/* A chain of facts `name a b` from element `first` to element `second`, given by their texts without quotes. Writes its element numbers,
-   one byte each: each neighbouring pair is a fact of that name, and none comes twice except that the last may equal the first. Which
-   chain is free. The numbers count the facts' elements alone: with left-hand strings in a query they may differ from a run's, so ask
-   relcalc_element with a query without them, such as "PRINT ENDL;". Bytes of the buffer past the count are unchanged.
+/* The first chain of facts `name a b` from element `first` to element `second`, given by their texts without quotes. Writes its element
+   numbers, one byte each: each neighbouring pair is a fact of that name, and none comes twice except that the last may equal the first.
+   The first chain has the fewest numbers and, among those, the smallest number at the earliest difference: every other chain for that
+   question is as long or longer and, if as long, comes later. So the same facts give the same chain on every screen. With equal ends it
+   is the shortest cycle, of several the first.
+   The numbers count the facts' elements alone: with left-hand strings in a query they may differ from a run's, so ask relcalc_element
+   with a query without them, such as "PRINT ENDL;". Bytes of the buffer past the count are unchanged.
    Refused, 1 to 7 for the facts, then 15, 16, 17: count is 0 and the buffer is unchanged. */
 relcalc_chained relcalc_chain(const uint8_t *facts, size_t facts_len, const uint8_t *name, size_t name_len,
                               const uint8_t *first, size_t first_len, const uint8_t *second, size_t second_len,

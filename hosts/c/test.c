@@ -1,5 +1,5 @@
-/* The calls from C: the worked example, facts saved with CR LF, patterns, printed quotes, counts of tuples, sums and ratios, refusals,
-   null and equal texts, the largest sizes, a small stack. */
+/* The calls from C: the worked example, facts saved with CR LF, patterns, printed quotes, counts of tuples, sums and ratios, first
+   chains, refusals, null and equal texts, the largest sizes, a small stack. */
 #define _POSIX_C_SOURCE 200809L
 #include "lent.h"
 #include "relcalc.h"
@@ -313,6 +313,68 @@ static void refused_numbers(void)
     EXPECT(is_part(element(F, "PRINT 1000000;", 0), RELCALC_IN_QUERY, 0, 0));
 }
 
+/* a chain of these numbers, in a buffer whose other bytes stay */
+static int chained(const char *f, const char *name, const char *a, const char *b, const uint8_t *numbers, size_t count)
+{
+    uint8_t buffer[RELCALC_CHAIN_BYTES + 1], due[RELCALC_CHAIN_BYTES + 1];
+    memset(buffer, 7, sizeof buffer), memset(due, 7, sizeof due), memcpy(due, numbers, count);
+    relcalc_chained c = chain(f, name, a, b, buffer, RELCALC_CHAIN_BYTES);
+    return !c.refusal && !c.place && c.count == count && !memcmp(buffer, due, sizeof due);
+}
+#define CHAINED(f, name, a, b, ...) chained(f, name, a, b, (const uint8_t[]){__VA_ARGS__}, sizeof(const uint8_t[]){__VA_ARGS__})
+
+/* a chain refused, in a buffer that stays */
+static int unchained(const char *f, const char *name, const char *a, const char *b, size_t room, uint64_t refusal, uint64_t place)
+{
+    uint8_t buffer[RELCALC_CHAIN_BYTES], due[RELCALC_CHAIN_BYTES];
+    memset(buffer, 7, sizeof buffer), memset(due, 7, sizeof due);
+    relcalc_chained c = chain(f, name, a, b, buffer, room);
+    return !memcmp(&c, &(relcalc_chained){.refusal = refusal, .place = place}, sizeof c) && !memcmp(buffer, due, sizeof due);
+}
+
+/* fewest elements, then the smallest number at the earliest difference */
+static void first_chains(void)
+{
+    EXPECT(CHAINED("R a b\nR a c\nR b d\nR c d\n", "R", "a", "d", 0, 1, 3));
+    EXPECT(CHAINED("R c d\nR b d\nR a c\nR a b\n", "R", "a", "d", 0, 1, 3));
+    EXPECT(CHAINED("R a b\nR b c\nR c e\nR a d\nR d e\n", "R", "a", "e", 0, 3, 4));
+    EXPECT(CHAINED("R a b\nR b c\nR a c\n", "R", "a", "c", 0, 2));
+    EXPECT(CHAINED("R a b\nR b y\nR y z\nR a c\nR c d\nR d z\n", "R", "a", "z", 0, 1, 4, 5));
+    EXPECT(CHAINED("R z y\nR y b\nR b a\nR z x\nR x c\nR c a\n", "R", "z", "a", 5, 3, 2, 0));
+    EXPECT(CHAINED("R B7 C2\nR C2 X\nR B7 C10\nR C10 X\n", "R", "B7", "X", 0, 1, 3));
+    EXPECT(CHAINED("R s a\nR a t\nR s B\nR B t\n", "R", "s", "t", 2, 0, 3));
+    EXPECT(CHAINED("S A\nR a b\nT c a B\n", "R", "a", "b", 2, 3));
+    EXPECT(CHAINED("R x c\nR c z\nR x \"a b\"\nR \"a b\" z\n", "R", "x", "z", 2, 0, 3));
+    EXPECT(CHAINED("R \"a\" b\nR b \"c\"\n", "R", "a", "c", 0, 1, 2));
+    EXPECT(CHAINED("R a b\nR b z\nR a \"\"\nR \"\" z\n", "R", "a", "z", 1, 0, 3));
+    EXPECT(CHAINED("R a b\r\nR a c\r\nR b d\r\nR c d\r\n", "R", "a", "d", 0, 1, 3));
+}
+
+/* with equal ends the shortest cycle, and of several the first */
+static void first_cycles(void)
+{
+    EXPECT(CHAINED("R a a\n", "R", "a", "a", 0, 0));
+    EXPECT(CHAINED("R \"\" \"\"\n", "R", "", "", 0, 0));
+    EXPECT(CHAINED("R a b\nR b a\nR b b\n", "R", "b", "b", 1, 1));
+    EXPECT(CHAINED("R a b\nR b c\nR c a\nR a d\nR d a\n", "R", "a", "a", 0, 3, 0));
+    EXPECT(CHAINED("R a b\nR b c\nR c a\nR a d\nR d a\n", "R", "b", "b", 1, 2, 0, 1));
+    EXPECT(CHAINED("R b c\nR c b\nR b a\nR a b\n", "R", "b", "b", 1, 0, 1));
+    EXPECT(CHAINED("R a a\nR a b\nR b b\n", "R", "a", "b", 0, 1));
+}
+
+static void refused_chains(void)
+{
+    static const char ab[] = "R a b\n";
+    EXPECT(unchained(ab, "R", "b", "a", 65, RELCALC_NO_CHAIN, 0) && unchained(ab, "R", "a", "a", 65, RELCALC_NO_CHAIN, 0));
+    EXPECT(unchained("R a b\nR b b\n", "R", "a", "a", 65, RELCALC_NO_CHAIN, 0));
+    EXPECT(unchained("R a b\nS b c\n", "R", "a", "c", 65, RELCALC_NO_CHAIN, 0));
+    EXPECT(unchained(ab, "R", "a", "b", 64, RELCALC_BUFFER_SHORT, 0) && unchained(ab, "R", "b", "a", 0, RELCALC_BUFFER_SHORT, 0));
+    EXPECT(unchained(ab, "R", "a", "c", 0, RELCALC_NOT_IN_FACTS, 0) && unchained(ab, "R", "\"a\"", "b", 65, RELCALC_NOT_IN_FACTS, 0));
+    EXPECT(unchained(ab, "S", "a", "b", 65, RELCALC_NOT_IN_FACTS, 0));
+    EXPECT(unchained("R a b c\n", "R", "a", "b", 65, RELCALC_NOT_IN_FACTS, 0));
+    EXPECT(unchained("R a\nR a b\n", "S", "x", "y", 0, RELCALC_ARITY_WRONG, 8));
+}
+
 static void refused_patterns(void)
 {
     static const char *const wrong[] = {"", "a|", "()", "*a", "^*", "a**", "a{3}", "(a", "a)", "[]", "[b-a]", "[[:alpha:]]", "\\"};
@@ -462,6 +524,9 @@ int main(void)
     no_counts_of_refusals();
     quantities();
     refused_numbers();
+    first_chains();
+    first_cycles();
+    refused_chains();
     refusals();
     empty_and_equal();
     largest_sizes();

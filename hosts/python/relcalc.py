@@ -268,11 +268,20 @@ class Relcalc:
         return None if (a.text, a.offset, a.length) == (1, 0, 0) else Part(Text(a.text), a.offset, a.length)
 
     def chain(self, facts, name, first, second, room=CHAIN_BYTES):
-        """The element numbers of a chain of facts of that name."""
+        """The element numbers of the first chain of facts of that name.
+
+        First is the one with the fewest elements and, among those, with the smallest number at the earliest difference.
+        """
         buffer = _room(ctypes.c_uint8, room)
         a = self._chain(*_lent(*map(_bytes, (facts, name, first, second))), buffer, room)
         _accept(a)
         return buffer[: a.count]
+
+    def chain_texts(self, facts, name, first, second):
+        """The texts of the first chain's elements, without quotes: a screen shows them as `B7 -> C10 -> C5`."""
+        # the numbers count the facts' elements alone: so do those of a query without left-hand strings
+        query = b"PRINT ENDL;"
+        return [self.element(facts, query, n).of(facts, query) for n in self.chain(facts, name, first, second)]
 
     def explain(self, refused, facts, query=b""):
         """Where and why the texts of a call were refused."""

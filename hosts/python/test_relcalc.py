@@ -1,5 +1,5 @@
 """The wrapper over the shared object: the worked example, facts saved with CR LF, patterns, printed quotes, counts of tuples, sums and
-ratios, refusals, empty and equal texts, the largest sizes."""
+ratios, first chains, refusals, empty and equal texts, the largest sizes, the guide's examples."""
 import ctypes
 import itertools
 import os
@@ -90,6 +90,37 @@ PATTERNS = [
 
 def picking(pattern):
     return b'PRINT @"' + pattern + b'"(x);'
+
+
+# facts, the ends, and the first chain's numbers
+FIRST_CHAINS = [
+    (b"R a b\nR a c\nR b d\nR c d\n", "a", "d", [0, 1, 3]),
+    (b"R c d\nR b d\nR a c\nR a b\n", "a", "d", [0, 1, 3]),
+    (b"R a b\nR b c\nR c e\nR a d\nR d e\n", "a", "e", [0, 3, 4]),
+    (b"R a b\nR b c\nR a c\n", "a", "c", [0, 2]),
+    (b"R a b\nR b y\nR y z\nR a c\nR c d\nR d z\n", "a", "z", [0, 1, 4, 5]),
+    (b"R z y\nR y b\nR b a\nR z x\nR x c\nR c a\n", "z", "a", [5, 3, 2, 0]),
+    (b"R B7 C2\nR C2 X\nR B7 C10\nR C10 X\n", "B7", "X", [0, 1, 3]),
+    (b"R s a\nR a t\nR s B\nR B t\n", "s", "t", [2, 0, 3]),
+    (b"S A\nR a b\nT c a B\n", "a", "b", [2, 3]),
+    (b'R x c\nR c z\nR x "a b"\nR "a b" z\n', "x", "z", [2, 0, 3]),
+    (b'R a b\nR b z\nR a ""\nR "" z\n', "a", "z", [1, 0, 3]),
+    (b"R a a\n", "a", "a", [0, 0]),
+    (b'R "" ""\n', "", "", [0, 0]),
+    (b"R a b\nR b a\nR b b\n", "b", "b", [1, 1]),
+    (b"R a b\nR b c\nR c a\nR a d\nR d a\n", "a", "a", [0, 3, 0]),
+    (b"R a b\nR b c\nR c a\nR a d\nR d a\n", "b", "b", [1, 2, 0, 1]),
+    (b"R b c\nR c b\nR b a\nR a b\n", "b", "b", [1, 0, 1]),
+]
+
+
+def chains(pairs, first, second):
+    """Every chain of pairs of 0, 1, 2 from first to second."""
+    for n in range(3):
+        for between in itertools.permutations({0, 1, 2} - {first, second}, n):
+            chain = [first, *between, second]
+            if all(pair in pairs for pair in zip(chain, chain[1:])):
+                yield chain
 
 
 def sixteen(*counts):
@@ -330,6 +361,59 @@ class Host(unittest.TestCase):
         told = rc.explain(Refused(Refusal.NO_PROGRAM, 9), FACTS, b"PRINT On(12x,y);")
         self.says(told, "query:1:10: refused 10 at `12`: ", "\n  PRINT On(12x,y);\n           ^")
 
+    def test_first_chains(self):
+        for facts, first, second, numbers in FIRST_CHAINS:
+            self.assertEqual(rc.chain(facts, "R", first, second), numbers, facts)
+
+    def test_first_chains_of_three_elements(self):
+        every = list(itertools.product(range(3), repeat=2))
+        for pairs in (list(itertools.compress(every, chosen)) for chosen in itertools.product((0, 1), repeat=9)):
+            facts = "S a\nS b\nS c\nR a d\n" + "".join(f"R {'abc'[x]} {'abc'[y]}\n" for x, y in pairs)
+            for first, second in every:
+                question = (facts, "R", "abc"[first], "abc"[second])
+                if found := list(chains(pairs, first, second)):
+                    self.assertEqual(rc.chain(*question), min(found, key=lambda chain: (len(chain), chain)), facts)
+                else:
+                    self.refused(Refusal.NO_CHAIN, 0, rc.chain, *question)
+
+    def test_texts_of_chains(self):
+        for facts, first, second, texts in [
+            (b"R B7 C10\nR C10 C5\nR B7 C20\nR C20 C5\n", "B7", "C5", [b"B7", b"C10", b"C5"]),
+            (b'R "B7" C10\r\nR C10 "5Y off the run"\r\n', "B7", "5Y off the run", [b"B7", b"C10", b"5Y off the run"]),
+            (b'R a b\nR b z\nR a ""\nR "" z\n', "a", "z", [b"a", b"", b"z"]),
+            (b"S A\nR b a\nR a b\r", "b", "b", [b"b", b"a", b"b"]),
+            ("R a b\n", b"a", b"b", [b"a", b"b"]),
+        ]:
+            self.assertEqual(rc.chain_texts(facts, "R", first, second), texts, facts)
+        # a relation that a query assigns, by way of its page
+        page = rc.run(FACTS, 'Under(x,y) := On(y,x); PRINT ["Under"] Under(x,y);').output
+        self.assertEqual(rc.chain_texts(page, "Under", "C2", "B7"), [b"C2", b"C5", b"C10", b"B7"])
+
+    def test_refused_chains(self):
+        for refusal, place, facts, first, second in [
+            (Refusal.NO_CHAIN, 0, b"R a b\n", "b", "a"),
+            (Refusal.NO_CHAIN, 0, b"R a b\n", "a", "a"),
+            (Refusal.NO_CHAIN, 0, b"R a b\nR b b\n", "a", "a"),
+            (Refusal.NO_CHAIN, 0, b"R a b\nS b c\n", "a", "c"),
+            (Refusal.NOT_IN_FACTS, 0, b"R a b\n", "a", '"b"'),
+            (Refusal.NOT_IN_FACTS, 0, b"R a b c\n", "a", "b"),
+            (Refusal.NOT_IN_FACTS, 0, None, None, None),
+            (Refusal.ARITY, 8, b"R a\nR a b\n", "x", "y"),
+            (Refusal.FACT_BYTE, 5, b"R a b\r c\n", "a", "b"),
+        ]:
+            self.refused(refusal, place, rc.chain, facts, "R", first, second)
+            self.refused(refusal, place, rc.chain_texts, facts, "R", first, second)
+        self.refused(Refusal.BUFFER_SHORT, 0, rc.chain, b"R a b\n", "R", "a", "b", room=64)
+        self.refused(Refusal.BUFFER_SHORT, 0, rc.chain, b"R a b\n", "R", "b", "a", room=0)
+        self.refused(Refusal.NOT_IN_FACTS, 0, rc.chain, b"R a b\n", "R", "a", "c", room=0)
+
+    def test_buffers_of_chains(self):
+        """Bytes past the count, and all of them on refusal, stay, which the classes do not show."""
+        for second, room, written in [(b"b", 65, b"\0\1"), (b"b", 64, b""), (b"a", 65, b"")]:
+            buffer = (ctypes.c_uint8 * 70)(*[7] * 70)
+            rc._chain(b"R a b\n", 6, b"R", 1, b"a", 1, second, 1, buffer, room)
+            self.assertEqual(bytes(buffer), written.ljust(70, b"\7"), (second, room))
+
     def test_refused_patterns(self):
         for pattern, _, _ in NO_PATTERNS:
             self.refused(Refusal.PATTERN, 7, rc.check, FACTS, picking(pattern))
@@ -481,11 +565,25 @@ class Host(unittest.TestCase):
         self.refused(Refusal.QUERY_TOO_LONG, 16384, rc.check, facts, query + b" ")
         ring = b"".join(b"On e%02d e%02d\n" % (i, (i + 1) % 64) for i in range(64))
         self.assertEqual(len(rc.chain(ring, "On", "e05", "e05", room=CHAIN_BYTES)), 65)
+        names = [b"e%02d" % (i % 64) for i in range(5, 70)]
+        facts = ring + b"".join(b"R%d\n" % r for r in range(1, 16))
+        self.assertEqual(rc.chain_texts(facts, "On", "e05", "e05"), names)
+
+    def chain_of_the_guide(self, cells, example, shown):
+        """A row's chain over the page's facts and the lines that the row adds: its texts with arrows, or its refusal."""
+        *lines, name, first, second = example
+        question = (FACTS.decode() + "".join(f"{line}\n" for line in lines), name, first, second)
+        if shown:
+            self.assertEqual(" -> ".join(t.decode() for t in rc.chain_texts(*question)), shown[0], cells)
+        else:
+            self.refused(Refusal(int(cells[0])), int(cells[3]), rc.chain_texts, *question)
 
     def test_examples_of_the_guide(self):
         checked = 0
         for cells, (_, _, example, prints) in guide_rows(4):
-            if prints:
+            if "chain `" in cells[2]:
+                self.chain_of_the_guide(cells, example, prints)
+            elif prints:
                 ran = rc.run(FACTS, example[0])
                 self.assertEqual((ran.ending, ran.output.decode().splitlines()), (Ending.DONE, prints), cells)
             elif cells[2].startswith("facts `"):
@@ -495,7 +593,7 @@ class Host(unittest.TestCase):
             else:
                 continue
             checked += 1
-        self.assertEqual(checked, 61)
+        self.assertEqual(checked, 71)
         self.refused(Refusal.TOO_MANY_RELATIONS, 0, rc.check, "".join(f"R{i}\n" for i in range(16)), "New();")
         self.refused(Refusal.TOO_MANY_ELEMENTS, 5, rc.check, "".join(f"Held {i}\n" for i in range(64)), 'Held("New");')
 

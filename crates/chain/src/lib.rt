@@ -1,4 +1,4 @@
-// The chain call: the facts are read, the rows of the name's pairs are filled, and a chain is searched in them.
+// The chain call: the facts are read, the rows of the name's pairs are filled, and the first chain is searched in them.
 ghost use mathlib.Core.Path.{_≡_};
 ghost use Prim.Native.Nat.{ℕ, _-_, _<_, _≤_};
 ghost use mathlib.Core.List.{List};

@@ -91,6 +91,22 @@ fn cycles() {
     show(round, b"S", b"d", b"a");
 }
 
+// The first chain: the only one with fewest elements; of two with as few the smaller number at the earliest difference, in byte order
+// (C10 before C2), with the numbers of all the facts' elements.
+fn first() {
+    let fewest: &[u8] = b"On C10 C5\nOn C5 C2\nOn B7 C10\nOn B7 C5";
+    show(fewest, b"On", b"B7", b"C2");
+    let longer: &[u8] = b"E a b\nE b c\nE c z\nE a d\nE d z";
+    show(longer, b"E", b"a", b"z");
+    let tie: &[u8] = b"Held A\nE B C2\nE C2 D\nE B C10\nE C10 D\nD B D";
+    show(tie, b"E", b"B", b"D");
+    let behind: &[u8] = b"E a c\nE c d\nE d z\nE a b\nE b y\nE y z";
+    show(behind, b"E", b"a", b"z");
+    let back: &[u8] = b"E b c\nE c b\nE b a\nE a b\nE c c";
+    show(back, b"E", b"b", b"b");
+    show(back, b"E", b"c", b"c");
+}
+
 // The facts come first, and nothing after the dot is read.
 fn refused() {
     show_short(b"On a b\nOn", b"R", b"a", b"c");
@@ -108,5 +124,6 @@ fn main() {
     short(f);
     none(f);
     cycles();
+    first();
     refused();
 }

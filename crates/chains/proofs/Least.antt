@@ -1,12 +1,12 @@
 -- The first number that passes a test, and the least bit of a word.
 use Prim.Native.Nat.{ℕ, zero, suc, _+_, _-_, _^_, _<_, _≤_}
-use mathlib.Core.Path.{_≡_, refl, sym, ap, _∙_}
+use mathlib.Core.Path.{_≡_, refl, sym, ap, subst, _∙_}
 use mathlib.Core.Bool.{Bool, true, false, cond}
 use native.Mathlib.Omega.{arith}
 use native.Mathlib.Decide.{decLt}
 use native.Mathlib.Numerals.{add-one}
 use borrow.Author.Tests.{eq-eqb}
-use lib.Dec.{eqb}
+use lib.Dec.{T, eqb}
 use lib.Pow.{pow-pos}
 use Rattle.definition.specs.Tables.{bit}
 use Rattle.definition.proofs.BoolLaws.{apart}
@@ -42,6 +42,14 @@ least-fails (suc n) a f j h l = go (f a) refl l (decLt a j) (least-fails n (suc 
     go true e l d ih = absurd (omega arith)
     go false e l (yes d) ih = ih (omega arith) l
     go false e l (no d) ih = let s : j ≡ a = omega arith in ap f s ∙ e
+
+-- so what passes is not smaller
+pub least-first : (n a : ℕ) (f : ℕ → Bool) (j : ℕ) → a ≤ j → T (f j) → least n a f ≤ j
+least-first n a f j h t = go (decLt j (least n a f))
+  where
+    go : Dec (j < least n a f) → least n a f ≤ j
+    go (yes l) = absurd (subst T (least-fails n a f j h l) t)
+    go (no l) = omega arith
 
 -- tests that agree find the same
 pub least-same : (n a : ℕ) (f g : ℕ → Bool) → ((i : ℕ) → a ≤ i → i < a + n → f i ≡ g i) → least n a f ≡ least n a g

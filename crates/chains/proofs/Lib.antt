@@ -1,3 +1,4 @@
+pub mod First
 pub mod Least
 pub mod Loops
 pub mod Search

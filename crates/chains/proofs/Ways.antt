@@ -1,4 +1,4 @@
--- Levels of elements and the way down them: it is a chain, and where there is a chain some level is met.
+-- Levels of elements and the way down them: it is a chain.
 use Prim.Native.Nat.{ℕ, zero, suc, _-_, _^_, _<_, _≤_}
 use mathlib.Core.Path.{_≡_, refl, sym, ap, subst, _∙_}
 use mathlib.Core.Logic.{_⊎_, inl, inr, ⊎-elim}
@@ -83,7 +83,7 @@ module _ (rows : List ℕ) (b : ℕ) (few : length rows ≤ 64) (inside : b < le
   level-element k x t = bit-within (length rows) (level rows b k) x (level-lt k) t
 
   -- b alone is in the first level
-  level-first : T (bit (level rows b 0) b)
+  pub level-first : T (bit (level rows b 0) b)
   unfolding level
   level-first = subst T (sym (bit-with 0 b b (omega arith))) (or-right (bit 0 b) (eqb b b) (eqb-refl b))
 
@@ -100,7 +100,7 @@ module _ (rows : List ℕ) (b : ℕ) (few : length rows ≤ 64) (inside : b < le
       ⊎-elim inl (λ s. inr (subst T (word-bit (length rows) (λ x. meets (getD rows x 0) (level rows b k)) x (level-element (suc k) x t)) s))
       (or-cases (bit (level rows b k) x) (bit (before rows (level rows b k)) x) (subst T (bit-or (level rows b k) (before rows (level rows b k)) x) t))
 
-  level-joins : (k x : ℕ) → x < length rows → T (meets (getD rows x 0) (level rows b k)) → T (bit (level rows b (suc k)) x)
+  pub level-joins : (k x : ℕ) → x < length rows → T (meets (getD rows x 0) (level rows b k)) → T (bit (level rows b (suc k)) x)
   unfolding level before
   level-joins k x l t =
       subst T (sym (bit-or (level rows b k) (before rows (level rows b k)) x))
@@ -204,26 +204,3 @@ module _ (rows : List ℕ) (b : ℕ) (few : length rows ≤ 64) (inside : b < le
         pairs = λ i h. down-pairs k x r i (omega arith);
         once = λ i j h l e. let (p, q) = down-once k x r i j h (omega arith) e in (p, omega arith);
       }
-
-  -- ---- where there is a chain, a level is met
-
-  module _ (a : ℕ) (c : List ℕ) (chain : IsChain (λ x y. bit (getD rows x 0) y) a b c) where
-    -- the number m places before the last is in level m
-    back : (m : ℕ) → suc m < length c → T (bit (level rows b m) (getD c (length c - 1 - m) 0))
-    back zero h =
-        let e : length c - 1 - 0 ≡ length c - 1 = omega arith in
-        subst (λ (x : ℕ). T (bit (level rows b 0) x)) (sym (ap (λ (i : ℕ). getD c i 0) e ∙ chain .last)) level-first
-    back (suc m) h =
-        let i = length c - 1 - suc m in
-        let e : length c - 1 - m ≡ suc i = omega arith in
-        let s : T (bit (level rows b m) (getD c (suc i) 0)) = subst (λ (x : ℕ). T (bit (level rows b m) (getD c x 0))) e (back m (omega arith)) in
-        let t : T (bit (getD rows (getD c i 0) 0) (getD c (suc i) 0)) = chain .pairs i (omega arith) in
-        level-joins m (getD c i 0) (row-below rows (getD c i 0) (getD c (suc i) 0) t) (meets-at (getD rows (getD c i 0) 0) (level rows b m) (getD c (suc i) 0) t s)
-
-    pub chain-met : T (met (length c - 2) a)
-    chain-met =
-        let h = chain .two in
-        let e : length c - 1 - (length c - 2) ≡ 1 = omega arith in
-        let s : T (bit (level rows b (length c - 2)) (getD c 1 0)) = subst (λ (x : ℕ). T (bit (level rows b (length c - 2)) (getD c x 0))) e (back (length c - 2) (omega arith)) in
-        let t : T (bit (getD rows a 0) (getD c 1 0)) = subst (λ (x : ℕ). T (bit (getD rows x 0) (getD c 1 0))) (chain .first) (chain .pairs 0 (omega arith)) in
-        meets-at (getD rows a 0) (level rows b (length c - 2)) (getD c 1 0) t s

@@ -6,13 +6,13 @@ use Prim.Native.Nat.{ℕ}
 use lib.ListN.{length, drop}
 use Rattle.definition.specs.Answer.{ok}
 use Rattle.definition.specs.Tables.{holds, closure}
-use Rattle.definition.specs.Calls.{IsChain, ChainRefuses, chained-answer}
+use Rattle.definition.specs.Calls.{FirstChain, ChainRefuses, chained-answer}
 use Rattle.definition.specs.declared.Chained.{Chained}
 
--- a chain of the table's pairs; "it answers their count and leaves the rest of the buffer"
+-- the first chain of the table's pairs; "it answers their count and leaves the rest of the buffer"
 pub record Found (rows : List ℕ) (a b : ℕ) (buffer : List ℕ) (c : Chained) (buffer′ : List ℕ) : Type 0 where
   pub chain : List ℕ
-  pub right : IsChain (λ x y. holds (length rows) rows (x ∷ y ∷ [])) a b chain
+  pub right : FirstChain (λ x y. holds (length rows) rows (x ∷ y ∷ [])) a b chain
   pub answer : chained-answer c ≡ ok (length chain)
   pub written : buffer′ ≡ chain ++ drop (length chain) buffer
 

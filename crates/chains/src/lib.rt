@@ -1,4 +1,5 @@
-// The search for a chain of a binary table's pairs: levels of elements by their distance from the last one, then a way down the levels.
+// The search for the first chain of a binary table's pairs: levels of elements by their distance to the last one, then the way down the
+// levels by the least element of each.
 ghost use mathlib.Core.Path.{_≡_};
 ghost use mathlib.Core.List.{_∷_, _++_};
 ghost use Prim.Native.Nat.{suc, _+_, _<_, _≤_};
@@ -96,8 +97,9 @@ fn walk(rows: &[u64], near: &[u64; 64], a: usize, n: usize, buffer: &mut [u8])
     }
 }
 
-// Writes a chain from a to b, if there is one. The level that a's row meets first is the distance of the next element, and each
-// element of the way is one level below the one before, so no number comes twice.
+// Writes the first chain from a to b, if there is one. The level that a's row meets first is the distance of the next element, and each
+// element of the way is one level below the one before, so no number comes twice and no chain is shorter; each is the least of its level
+// that can be, so no chain as short comes before.
 pub fn find_chain(rows: &[u64], a: usize, b: usize, buffer: &mut [u8]) -> Chained
     requires { ⌜ (length (now rows) ≤ 64) × (a < length (now rows)) × (b < length (now rows)) × (65 ≤ length (now buffer)) ⌝ }
     ensures { λ r. ⌜ Searched (now (rows .entry)) a b (now (buffer .entry)) r (now (buffer .exit)) ⌝ }

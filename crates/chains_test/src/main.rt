@@ -46,6 +46,31 @@ fn show_chain(rows: &[u64], a: usize, b: usize) {
     write_line(&mut line, n);
 }
 
+// Fewest numbers: a pair beats the way by a smaller number, and a smaller number that leads a longer way, or nowhere, is passed over.
+fn fewest() {
+    let direct = [8u64, 9, 0, 0];
+    show_chain(&direct, 1, 3);
+    let longer = [10u64, 4, 16, 16, 0];
+    show_chain(&longer, 0, 4);
+    let dead_end = [6u64, 0, 8, 0];
+    show_chain(&dead_end, 0, 3);
+}
+
+// Of chains of one length the smallest number at the earliest difference, whatever comes behind it; the number may be 0.
+fn ties() {
+    let inner = [6u64, 8, 8, 0];
+    show_chain(&inner, 0, 3);
+    let zero = [8u64, 5, 8, 0];
+    show_chain(&zero, 1, 3);
+    let behind = [6u64, 16, 8, 32, 32, 0];
+    show_chain(&behind, 0, 5);
+    // Back to the first element: by its own pair, else by the smaller of two.
+    let own = [2u64, 3];
+    show_chain(&own, 1, 1);
+    let back = [4u64, 4, 3];
+    show_chain(&back, 2, 2);
+}
+
 // Each element has a pair with the next, and the last with the first: the longest chain that there is.
 fn ring() {
     let mut rows = [0u64; 64];
@@ -72,5 +97,7 @@ fn main() {
     let ways = [14u64, 4, 8, 16, 0];
     show_chain(&ways, 0, 4);
     show_chain(&ways, 1, 4);
+    fewest();
+    ties();
     ring();
 }

@@ -54,14 +54,12 @@ chain-length r u below a b c h =
     omega arith
 
 pub chain-short : (f : Facts) (r : Text) (a b : ℕ) (c : List ℕ) → IsChain (is-pair f r) a b c → length c ≤ suc (length (f .universe))
-unfolding is-pair
-chain-short f r a b c h = chain-length (is-pair f r) (length (f .universe)) (λ a b t. pair-below f r a b (f .facts) t .0) a b c h
+chain-short f r a b c h = chain-length (is-pair f r) (length (f .universe)) (λ a b t. pair-below f r a b t .0) a b c h
 
 -- each of its numbers is an element's
 pub chain-numbers : (f : Facts) (r : Text) (a b : ℕ) (c : List ℕ) → IsChain (is-pair f r) a b c → (i : ℕ) → i < length c → getD c i 0 < length (f .universe)
-unfolding is-pair
-chain-numbers f r a b c h zero k = pair-below f r (getD c 0 0) (getD c 1 0) (f .facts) (h .pairs 0 (let m = h .two in omega arith)) .0
-chain-numbers f r a b c h (suc i) k = pair-below f r (getD c i 0) (getD c (suc i) 0) (f .facts) (h .pairs i k) .1
+chain-numbers f r a b c h zero k = pair-below f r (getD c 0 0) (getD c 1 0) (h .pairs 0 (let m = h .two in omega arith)) .0
+chain-numbers f r a b c h (suc i) k = pair-below f r (getD c i 0) (getD c (suc i) 0) (h .pairs i k) .1
 
 -- "buffer under 65 bytes": where the chain call owes a chain, every chain fits in the buffer's first 65 bytes
 pub chain-fits : (facts r s t : Text) (room : ℕ) (k : Asked) (c : List ℕ) → chain-asked document-01 facts r s t room ≡ ok k → IsChain (is-pair (k .facts) r) (k .from) (k .to) c → (length c ≤ CHAIN-BYTES) × (CHAIN-BYTES ≤ room)

@@ -26,6 +26,15 @@ module _ {A : Type 0} where
   in-right [] i = i
   in-right (y ∷ xs) i = there (in-right xs i)
 
+  in-either : {x : A} (xs : List A) {ys : List A} → In x (xs ++ ys) → In x xs ⊎ In x ys
+  in-either [] i = inr i
+  in-either (y ∷ xs) (here e) = inl (here e)
+  in-either {x} (y ∷ xs) {ys} (there i) = go (in-either xs i)
+    where
+      go : In x xs ⊎ In x ys → In x (y ∷ xs) ⊎ In x ys
+      go (inl j) = inl (there j)
+      go (inr j) = inr j
+
   pub in-keep : (p : A → Bool) {x : A} {xs : List A} → In x xs → T (p x) → In x (keep p xs)
   unfolding keep
   in-keep p {x} (here {y} {xs} e) t = go (p y) (subst (λ z. T (p z)) e t)
@@ -72,6 +81,10 @@ module _ {A : Type 0} where
   every-in {P} (every-one h hs) (here e) = subst P (sym e) h
   every-in (every-one h hs) (there i) = every-in hs i
 
+  pub all-in : {P : A → Type 0} (xs : List A) → ((x : A) → In x xs → P x) → Every P xs
+  all-in [] f = every-none
+  all-in (x ∷ xs) f = every-one (f x (here refl)) (all-in xs (λ y i. f y (there i)))
+
 module _ {A B : Type 0} where
   pub in-map : (f : A → B) {x : A} {xs : List A} → In x xs → In (f x) (map f xs)
   in-map f (here e) = here (ap f e)
@@ -85,6 +98,14 @@ module _ {A B : Type 0} where
   unfolding gather
   in-gather f {x} {y} (here {xs = xs} e) j = in-left (gather f xs) (subst (λ z. In y (f z)) e j)
   in-gather f (there {y = z} i) j = in-right (f z) (in-gather f i j)
+
+  pub gather-in : (f : A → List B) {y : B} (xs : List A) → In y (gather f xs) → (x : A) × In x xs × In y (f x)
+  unfolding gather
+  gather-in f {y} (x ∷ xs) i = go (in-either (f x) i) (gather-in f xs)
+    where
+      go : In y (f x) ⊎ In y (gather f xs) → (In y (gather f xs) → (z : A) × In z xs × In y (f z)) → (z : A) × In z (x ∷ xs) × In y (f z)
+      go (inl j) ih = (x, here refl, j)
+      go (inr j) ih = let k = ih j in (k .0, there (k .1), k .2)
 
 -- all numbers below u, and all tuples of them
 in-from : (n a b : ℕ) → a ≤ b → b < a + n → In b (from n a)

@@ -186,9 +186,25 @@ pub fn element(facts: &[u8], query: &[u8], n: usize) -> Option<Part> {
     (part != Part { text: Text::Query, offset: 0, length: 0 }).then_some(part)
 }
 
-/// Writes the numbers of a chain of facts of that name to the buffer and answers their count; on refusal the buffer is unchanged.
+/// Writes the numbers of the first chain of facts of that name to the buffer and answers their count; on refusal the buffer is unchanged.
+/// First is the one with the fewest elements and, among those, with the smallest number at the earliest difference.
 pub fn chain(facts: &[u8], name: &[u8], first: &[u8], second: &[u8], buffer: &mut [u8]) -> Result<usize, Refused> {
     let a = c::chain(facts, name, first, second, buffer);
     accepted(a.refusal, a.place)?;
     Ok(a.count as usize)
+}
+
+/// The texts of the first chain's elements, without quotes: a screen shows them as `B7 -> C10 -> C5`.
+///
+/// ```
+/// let texts = relcalc::chain_texts(b"On C10 C5\nOn B7 C10\n", b"On", b"B7", b"C5").unwrap();
+/// assert_eq!(texts.join(&b" -> "[..]), b"B7 -> C10 -> C5");
+/// ```
+pub fn chain_texts<'a>(facts: &'a [u8], name: &[u8], first: &[u8], second: &[u8]) -> Result<Vec<&'a [u8]>, Refused> {
+    let mut numbers = [0; CHAIN_BYTES];
+    let count = chain(facts, name, first, second, &mut numbers)?;
+    // the numbers count the facts' elements alone: so do those of a query without left-hand strings
+    let query = b"PRINT ENDL;";
+    let part = |&n: &u8| element(facts, query, n.into()).expect("a chain's elements stand in the facts");
+    Ok(numbers[..count].iter().map(|n| part(n).of(facts, query)).collect())
 }

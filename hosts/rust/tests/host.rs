@@ -1,6 +1,7 @@
 //! The wrapper over the archive: the worked example, facts saved with CR LF, patterns, printed quotes, counts of tuples, sums and ratios,
-//! refusals, empty and equal texts, largest sizes.
-use relcalc::{c, chain, check, element, explain, run, Ending, Explained, Fault, Refusal, Refused, Text, CHAIN_BYTES, RELATIONS, STORE_WORDS};
+//! first chains, refusals, empty and equal texts, largest sizes.
+use relcalc::{c, chain, chain_texts, check, element, explain, run};
+use relcalc::{Ending, Explained, Fault, Refusal, Refused, Text, CHAIN_BYTES, RELATIONS, STORE_WORDS};
 
 const FACTS: &[u8] = b"On C10 C5\nOn C5 C2\nOn B7 C10\nHeld B7\n";
 const FACTS_CR_LF: &[u8] = b"On C10 C5\r\nOn C5 C2\r\nOn B7 C10\r\nHeld B7\r\n";
@@ -276,8 +277,9 @@ fn counts_as_loaded() {
 #[test]
 fn counts_at_the_end() {
     let dep = "Dep(x,y) := TC(On(x,y)); PRINT [\"Dep\"] Dep(x,y);";
-    let ends = [(0, 63, [3, 1, 0]), (1, 63, [3, 1, 6]), (2, 62, [3, 1, 6]), (2, 63, [3, 1, 6])];
-    ends.map(|(budget, room, due)| assert_eq!(counts(dep, budget, room), sixteen(&due)));
+    for (budget, room, due) in [(0, 63, [3, 1, 0]), (1, 63, [3, 1, 6]), (2, 62, [3, 1, 6]), (2, 63, [3, 1, 6])] {
+        assert_eq!(counts(dep, budget, room), sixteen(&due));
+    }
     assert_eq!(counts("PRINT ENDL;", 9, 1), sixteen(&[3, 1]));
     assert_eq!(counts("Held(\"C2\"); On(\"B7\",x) := FALSE(x);", 9, 0), sixteen(&[2, 2]));
     assert_eq!(counts("On(\"C2\",\"Z\"); Held(x) := Held(x);", 9, 0), sixteen(&[4, 1]));
@@ -288,8 +290,9 @@ fn counts_at_the_end() {
         assert_eq!(counts(shrinks, budget as u32, 99), sixteen(&[on, 1, gone]), "{budget} steps");
     }
     // B7, C10 and C5 are printed: 2, 3 and 2 bytes
-    let rooms = [(1, [2, 1, 1]), (4, [1, 1, 2]), (6, [0, 1, 3])];
-    rooms.map(|(room, due)| assert_eq!(counts(shrinks, 99, room), sixteen(&due)));
+    for (room, due) in [(1, [2, 1, 1]), (4, [1, 1, 2]), (6, [0, 1, 3])] {
+        assert_eq!(counts(shrinks, 99, room), sixteen(&due));
+    }
     let turns = "WHILE TRUE() { Held(x) := !Held(x); }";
     assert_eq!((counts(turns, 4, 0), counts(turns, 6, 0)), (sixteen(&[3, 1]), sixteen(&[3, 3])));
 }
@@ -380,6 +383,87 @@ fn words_on_refused_numbers() {
     assert!(digits.starts_with(&format!("query:1:7: refused 9 at `{}`: ", "1".repeat(33))), "{digits}");
     let term = told(Refusal::NoProgram, 9, "PRINT On(12x,y);");
     assert!(term.starts_with("query:1:10: refused 10 at `12`: "), "{term}");
+}
+
+/// The numbers of the chain of facts R; the buffer's other bytes stay.
+fn numbers(facts: &str, first: &str, second: &str) -> Vec<u8> {
+    let mut buffer = [99; CHAIN_BYTES + 1];
+    let count = chain(facts.as_bytes(), b"R", first.as_bytes(), second.as_bytes(), &mut buffer).unwrap();
+    assert!(buffer[count..].iter().all(|&b| b == 99), "{facts}");
+    buffer[..count].to_vec()
+}
+
+/// The texts of the chain of facts R.
+fn texts<'a>(facts: &'a str, first: &str, second: &str) -> Result<Vec<&'a str>, Refused> {
+    let texts = chain_texts(facts.as_bytes(), b"R", first.as_bytes(), second.as_bytes())?;
+    Ok(texts.into_iter().map(|t| std::str::from_utf8(t).unwrap()).collect())
+}
+
+#[test]
+fn first_chains() {
+    let rows: [(&str, &str, &str, &[u8]); 11] = [
+        ("R a b\nR a c\nR b d\nR c d\n", "a", "d", &[0, 1, 3]),
+        ("R c d\nR b d\nR a c\nR a b\n", "a", "d", &[0, 1, 3]),
+        ("R a b\nR b c\nR c e\nR a d\nR d e\n", "a", "e", &[0, 3, 4]),
+        ("R a b\nR b c\nR a c\n", "a", "c", &[0, 2]),
+        ("R a b\nR b y\nR y z\nR a c\nR c d\nR d z\n", "a", "z", &[0, 1, 4, 5]),
+        ("R z y\nR y b\nR b a\nR z x\nR x c\nR c a\n", "z", "a", &[5, 3, 2, 0]),
+        ("R B7 C2\nR C2 X\nR B7 C10\nR C10 X\n", "B7", "X", &[0, 1, 3]),
+        ("R s a\nR a t\nR s B\nR B t\n", "s", "t", &[2, 0, 3]),
+        ("S A\nR a b\nT c a B\n", "a", "b", &[2, 3]),
+        ("R x c\nR c z\nR x \"a b\"\nR \"a b\" z\n", "x", "z", &[2, 0, 3]),
+        ("R a b\nR b z\nR a \"\"\nR \"\" z\n", "a", "z", &[1, 0, 3]),
+    ];
+    for (facts, first, second, due) in rows {
+        assert_eq!(numbers(facts, first, second), due, "{facts}");
+    }
+}
+
+#[test]
+fn first_cycles() {
+    let rows: [(&str, &str, &[u8]); 6] = [
+        ("R a a\n", "a", &[0, 0]),
+        ("R \"\" \"\"\n", "", &[0, 0]),
+        ("R a b\nR b a\nR b b\n", "b", &[1, 1]),
+        ("R a b\nR b c\nR c a\nR a d\nR d a\n", "a", &[0, 3, 0]),
+        ("R a b\nR b c\nR c a\nR a d\nR d a\n", "b", &[1, 2, 0, 1]),
+        ("R b c\nR c b\nR b a\nR a b\n", "b", &[1, 0, 1]),
+    ];
+    for (facts, ends, due) in rows {
+        assert_eq!(numbers(facts, ends, ends), due, "{facts}");
+    }
+}
+
+#[test]
+fn texts_of_chains() {
+    assert_eq!(texts("R B7 C10\nR C10 C5\nR B7 C20\nR C20 C5\n", "B7", "C5"), Ok(vec!["B7", "C10", "C5"]));
+    let cr_lf = "R \"B7\" C10\r\nR C10 \"5Y off the run\"\r\n";
+    assert_eq!(texts(cr_lf, "B7", "5Y off the run"), Ok(vec!["B7", "C10", "5Y off the run"]));
+    assert_eq!(texts("R a b\nR b z\nR a \"\"\nR \"\" z\n", "a", "z"), Ok(vec!["a", "", "z"]));
+    assert_eq!(texts("S A\nR b a\nR a b\r", "b", "b"), Ok(vec!["b", "a", "b"]));
+    assert_eq!(texts("R a b\n", "b", "a"), Err(refused(Refusal::NoChain, 0)));
+    assert_eq!(texts("R a b\n", "a", "a"), Err(refused(Refusal::NoChain, 0)));
+    assert_eq!(texts("R a b\n", "a", "\"b\""), Err(refused(Refusal::NotInFacts, 0)));
+    assert_eq!(texts("R a b c\n", "a", "b"), Err(refused(Refusal::NotInFacts, 0)));
+    assert_eq!(texts("R a\nR a b\n", "a", "b"), Err(refused(Refusal::Arity, 8)));
+    assert_eq!(texts("R a b\r c\n", "a", "b"), Err(refused(Refusal::FactByte, 5)));
+    let found = chain_texts(FACTS, b"On", b"B7", b"C5").unwrap();
+    let parts: [&[u8]; 3] = [&FACTS[22..24], &FACTS[3..6], &FACTS[7..9]];
+    assert!(found.len() == 3 && found.iter().zip(parts).all(|(text, part)| std::ptr::eq(*text, part)), "{found:?}");
+}
+
+#[test]
+fn refused_chains() {
+    let mut buffer = [9; CHAIN_BYTES];
+    let mut ask = |facts: &[u8], first: &[u8], second: &[u8], room| chain(facts, b"R", first, second, &mut buffer[..room]);
+    assert_eq!(ask(b"R a b\n", b"a", b"a", 65), Err(refused(Refusal::NoChain, 0)));
+    assert_eq!(ask(b"R a b\nR b b\n", b"a", b"a", 65), Err(refused(Refusal::NoChain, 0)));
+    assert_eq!(ask(b"R a b\nS b c\n", b"a", b"c", 65), Err(refused(Refusal::NoChain, 0)));
+    assert_eq!(ask(b"R a b\n", b"a", b"b", 64), Err(refused(Refusal::BufferShort, 0)));
+    assert_eq!(ask(b"R a b\n", b"b", b"a", 0), Err(refused(Refusal::BufferShort, 0)));
+    assert_eq!(ask(b"R a b\n", b"a", b"c", 0), Err(refused(Refusal::NotInFacts, 0)));
+    assert_eq!(ask(b"R a\nR a b\n", b"x", b"y", 0), Err(refused(Refusal::Arity, 8)));
+    assert_eq!(buffer, [9; CHAIN_BYTES]);
 }
 
 #[test]
@@ -577,4 +661,8 @@ fn largest_sizes() {
     assert_eq!(check(&facts, &query), Err(refused(Refusal::QueryTooLong, 16_384)));
     let ring: Vec<u8> = (0..64).flat_map(|i| format!("On e{i:02} e{:02}\n", (i + 1) % 64).into_bytes()).collect();
     assert_eq!(chain(&ring, b"On", b"e05", b"e05", &mut [0; CHAIN_BYTES]), Ok(65));
+    let rest: Vec<u8> = (1..16).flat_map(|r| format!("R{r}\n").into_bytes()).collect();
+    let facts = [ring, rest].concat();
+    let found = chain_texts(&facts, b"On", b"e05", b"e05").unwrap();
+    assert_eq!((found.len(), found[0], found[1], found[64]), (65, &b"e05"[..], &b"e06"[..], &b"e05"[..]));
 }

@@ -1,16 +1,31 @@
 //! Each call of the archive held to the evaluator's answer, with all memory that it was lent.
 use evaluator::generate::Chain;
 use evaluator::run::Ending;
-use evaluator::{chain, counted, element, forms, is_chain, Accepted, Counts, Ran, Refusal};
+use evaluator::{chain, comes_first, counted, element, forms, Accepted, Counts, Ran, Refusal};
 use relcalc::c;
 use std::collections::BTreeMap;
 use std::fmt;
 
 pub type Difference = Result<(), String>;
 
-/// How often each refusal, each ending, each way in which counts change and each kind of relation read back was met.
+/// How often each refusal, each ending, each way in which counts change, each kind of relation read back and each kind of chain was met.
 #[derive(Default)]
 pub struct Met(BTreeMap<String, usize>);
+
+/// What matters where a chain is found, or none between equal ends.
+const CHAINS: [&str; 11] = [
+    "no other as short",
+    "first by its second number",
+    "first by a later number",
+    "not first by the last difference",
+    "an element joined with itself",
+    "round a cycle",
+    "64 numbers",
+    "65 numbers",
+    "smallest neighbours lead nowhere",
+    "smallest neighbours lead a longer way",
+    "none between equal ends",
+];
 
 impl Met {
     pub fn add(&mut self, what: String) {
@@ -30,7 +45,8 @@ impl Met {
         let tuples = (0..=3).flat_map(|n| ["no tuple", "each tuple"].map(|which| format!("read back: {which} of {n}")));
         let pages = ["page of 32767", "page of 32768", "elements in quotes for their texts alone"].map(|what| format!("read back: {what}"));
         let left = ["page too long", "query at its limit", "run not done"].map(|why| format!("not read back: {why}"));
-        let due = check.chain(run).chain(chain).chain(endings).chain(counts).chain(tuples).chain(pages).chain(left);
+        let chains = CHAINS.map(|kind| format!("chain: {kind}")).into_iter();
+        let due = check.chain(run).chain(chain).chain(endings).chain(counts).chain(tuples).chain(pages).chain(left).chain(chains);
         let never: Vec<String> = due.filter(|w| !self.0.contains_key(w)).collect();
         if never.is_empty() { Ok(()) } else { Err(format!("never met: {}", never.join(", "))) }
     }
@@ -134,25 +150,33 @@ pub fn elements_differ(facts: &[u8], query: &[u8], accepted: &Result<Accepted, R
     Ok(())
 }
 
+/// The archive's chain is held to every other for its question before it is held to the evaluator's, so that it is seen which one is wrong.
 pub fn chain_differs(facts: &[u8], call: &Chain, met: &mut Met) -> Difference {
-    let before = byte_pattern(call.room);
-    let mut buffer = before.clone();
+    let mut buffer = byte_pattern(call.room);
+    let mut want_buffer = buffer.clone();
     let found = c::chain(facts, &call.name, &call.first, &call.second, &mut buffer);
     let text = |t: &[u8]| String::from_utf8_lossy(t).into_owned();
     let lent = format!("chain {:?} {:?} {:?} with {} bytes", text(&call.name), text(&call.first), text(&call.second), call.room);
-    match chain(facts, &call.name, &call.first, &call.second, call.room) {
+    let question = chain::question(facts, &call.name, &call.first, &call.second, call.room);
+    if let (Ok(q), 0) = (&question, found.refusal) {
+        let numbers: Vec<usize> = buffer.iter().take(found.count as usize).map(|&n| n as usize).collect();
+        comes_first::of_all(q, &numbers).map_err(|e| format!("{lent}: {e}"))?.into_iter().for_each(|kind| met.add(kind));
+    }
+    let mut want = c::Chained::default();
+    match question.and_then(|q| q.answer()) {
         Err(r) => {
             met.refused("chain", &r);
-            same(&lent, found, c::Chained { refusal: r.0 as u64, place: r.1 as u64, count: 0 })?;
-            same_memory(&format!("{lent}: byte"), &buffer, &before)
+            if r.0 == 17 && call.first == call.second {
+                met.add("chain: none between equal ends".into());
+            }
+            (want.refusal, want.place) = (r.0 as u64, r.1 as u64);
         }
-        Ok((pairs, a, b)) => {
+        Ok(numbers) => {
             met.add("chain found".into());
-            same(&lent, (found.refusal, found.place, found.count <= 65), (0, 0, true))?;
-            let count = found.count as usize;
-            let numbers: Vec<usize> = buffer[..count].iter().map(|&n| n as usize).collect();
-            same(&format!("{lent}: {numbers:?} is a chain"), is_chain(&pairs, a, b, &numbers), true)?;
-            same_memory(&format!("{lent}: byte past {count}"), &buffer[count..], &before[count..])
+            want.count = numbers.len() as u64;
+            want_buffer.iter_mut().zip(numbers).for_each(|(byte, n)| *byte = n as u8);
         }
     }
+    same(&lent, found, want)?;
+    same_memory(&format!("{lent}: byte"), &buffer, &want_buffer)
 }

@@ -1,5 +1,6 @@
 //! Compares the archive with the evaluator, byte for byte: the check, runs, all elements and chains, over generated texts and over the
-//! cases; relations are also printed and read back, and their tuples counted. The last line is `N passed, M failed`, a text or case each.
+//! cases; relations are also printed and read back, their tuples counted, and chains held to every other for their question. The last
+//! line is `N passed, M failed`, a text or case each.
 mod calls;
 mod properties;
 

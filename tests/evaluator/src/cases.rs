@@ -1,10 +1,10 @@
 //! The evaluator held to a file of test cases.
 use crate::json::Json;
 use crate::run::Ending;
-use crate::{accept, chain, check, element, is_chain, run, Refusal};
+use crate::{accept, chain, check, comes_first, element, run, Refusal};
 
 /// Papers 1 to this one of document 02 are in force.
-const PAPERS: u64 = 5;
+const PAPERS: u64 = 6;
 
 /// Whether a case holds now: one of document 02 says after which papers it does.
 pub fn holds(c: &Json) -> bool {
@@ -59,12 +59,15 @@ pub fn element_agrees(c: &Json) -> bool {
     element(&accept(&c.get("facts").bytes(), &c.get("query").bytes()), c.get("n").number() as usize) == [text_number(&e[0]), e[1].number() as usize, e[2].number() as usize]
 }
 
+/// The case's own chain is held to what Paper 6 says of every other, too.
 pub fn chain_agrees(c: &Json) -> bool {
     let room = c.get("buflen").number() as usize;
-    match chain(&c.get("facts").bytes(), &c.get("rel").bytes(), &c.get("a").bytes(), &c.get("b").bytes(), room) {
+    let question = chain::question(&c.get("facts").bytes(), &c.get("rel").bytes(), &c.get("a").bytes(), &c.get("b").bytes(), room);
+    match question.and_then(|q| Ok((q.answer()?, q))) {
         Err(r) => refusal(c) == Some(r),
-        Ok((pairs, a, b)) => {
-            is_chain(&pairs, a, b, &numbers(c.get("one_answer").list()))
+        Ok((found, q)) => {
+            let want = numbers(c.get("chain").list());
+            refusal(c).is_none() && found == want && comes_first::of_all(&q, &want).is_ok()
         }
     }
 }

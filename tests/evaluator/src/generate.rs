@@ -1,8 +1,8 @@
 //! Texts for comparisons: facts and queries that are mostly accepted, the same with damage, texts with several faults, and texts at each
 //! limit of document 01; some of them saved with CR LF, as Paper 1 of document 02 allows for facts, or with bytes 13 elsewhere, some with
 //! patterns, as Paper 2 adds them, some that print what left-hand sides enter, as Paper 3 wants it, some whose relations grow and shrink,
-//! for the counts of Paper 4, and some with the sums and ratios of Paper 5.
-use crate::{accept, entered, picked, resized, saved, shapes, shares};
+//! for the counts of Paper 4, some with the sums and ratios of Paper 5, and some with many chains, for Paper 6.
+use crate::{accept, entered, picked, resized, saved, shapes, shares, ties};
 
 /// A small generator of pseudo-random numbers: the same seed gives the same texts on every machine.
 pub struct Random(u64);
@@ -601,7 +601,7 @@ fn fewer_facts(facts: &mut Vec<u8>, query: &[u8]) -> u64 {
 }
 
 /// The comparison of this number: first each limit below, at and above it, then limits, shapes, strings entered and printed, relations that
-/// grow and shrink, sums and ratios, and random texts, some damaged and some saved with CR LF.
+/// grow and shrink, sums and ratios, many chains, and random texts, some damaged and some saved with CR LF.
 pub fn texts(number: u64) -> Texts {
     let r = &mut Random::new(number);
     let limits = 3 * LIMITS as u64;
@@ -616,6 +616,9 @@ pub fn texts(number: u64) -> Texts {
     }
     if number >= limits && r.one_in(7) {
         return sharing(r);
+    }
+    if number >= limits && r.one_in(6) {
+        return tying(r);
     }
     let (mut facts, mut query) = match number {
         k if k < limits => limit((k / 3) as usize, (k % 3) as usize),
@@ -703,4 +706,11 @@ fn sharing(r: &mut Random) -> Texts {
     let room = if r.one_in(4) { r.below(30) } else { 4000 };
     let spare = if r.one_in(20) { -1 } else { r.below(4) as i64 };
     Texts { facts, query, budget, spare, room, elements: r.one_in(8), chains: Vec::new() }
+}
+
+/// Many chains: the run is there for the tables that they are over.
+fn tying(r: &mut Random) -> Texts {
+    let (facts, query, chains) = ties::texts(r);
+    let facts = if r.one_in(12) { saved::facts(r, &facts) } else { facts };
+    Texts { facts, query, budget: 1, spare: r.below(4) as i64, room: 4000, elements: r.one_in(8), chains }
 }

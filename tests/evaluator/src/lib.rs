@@ -2,6 +2,8 @@
 //! shares no fault with the engine or its definition.
 pub mod calculator;
 pub mod cases;
+pub mod chain;
+pub mod comes_first;
 pub mod counted;
 pub mod either_way;
 pub mod entered;
@@ -22,6 +24,7 @@ pub mod run;
 pub mod saved;
 pub mod shapes;
 pub mod shares;
+pub mod ties;
 pub mod tokens;
 
 use facts::{Element, Facts};
@@ -216,34 +219,4 @@ impl Accepted {
 /// The text (0 facts, 1 query), offset and length of element n.
 pub fn element(accepted: &Result<Accepted, Refusal>, n: usize) -> [usize; 3] {
     accepted.as_ref().map_or([1, 0, 0], |w| w.element(n))
-}
-
-/// What a chain is owed between: the facts' pairs of that name and the two numbers; or the refusal.
-pub fn chain(facts: &[u8], name: &[u8], first: &[u8], second: &[u8], room: usize) -> Result<(Set, usize, usize), Refusal> {
-    let f = facts::read(facts)?;
-    let universe: Vec<&Vec<u8>> = f.universe.iter().collect();
-    let number = |t: &[u8]| universe.iter().position(|u| *u == t);
-    let (true, Some(a), Some(b)) = (f.relations.iter().any(|r| r.name == name && r.arity == 2), number(first), number(second)) else {
-        return Err((15, 0));
-    };
-    if room < 65 {
-        return Err((16, 0));
-    }
-    let of_name = f.facts.iter().filter(|g| g.name == name);
-    let pairs: Set = of_name.map(|g| g.elements.iter().map(|e| number(&e.value).unwrap()).collect()).collect();
-    if !meaning::reach(&pairs, universe.len()).contains(&Row::from_iter([a, b])) {
-        return Err((17, 0));
-    }
-    Ok((pairs, a, b))
-}
-
-/// Whether numbers are a chain from a to b.
-pub fn is_chain(pairs: &Set, a: usize, b: usize, c: &[usize]) -> bool {
-    let inner: BTreeSet<usize> = c.iter().copied().collect();
-    let repeats = c.len() - inner.len();
-    c.len() >= 2
-        && c[0] == a
-        && c[c.len() - 1] == b
-        && c.windows(2).all(|p| pairs.contains(&p.iter().copied().collect()))
-        && (repeats == 0 || (repeats == 1 && a == b))
 }

@@ -28,7 +28,7 @@ fn joined(mut a: Vec<&'static str>, b: &[&'static str]) -> Vec<&'static str> {
     a
 }
 
-fn shuffle<T>(r: &mut Random, all: &mut [T]) {
+pub fn shuffle<T>(r: &mut Random, all: &mut [T]) {
     for i in (1..all.len()).rev() {
         let j = r.below(i + 1);
         all.swap(i, j);

@@ -1,10 +1,10 @@
 //! How many generated texts are accepted, how the others are refused, which forms the accepted ones have, which elements they print,
-//! what ratios come to, how large relations become and which are read back, what malformed patterns and numbers come to, and where
-//! bytes 13 stand: what the comparisons reach.
+//! what ratios come to, how large relations become and which are read back, what malformed patterns and numbers come to, where bytes 13
+//! stand, and which chains there are: what the comparisons reach.
 use evaluator::calculator::Evaluator;
-use evaluator::generate::{texts, Texts, LIMITS};
+use evaluator::generate::{texts, Chain, Texts, LIMITS};
 use evaluator::read_back::relations;
-use evaluator::{accept, chain, counted, forms, Accepted};
+use evaluator::{accept, chain, comes_first, counted, forms, Accepted};
 use std::collections::BTreeMap;
 
 /// What accepted texts have and what their runs do.
@@ -19,6 +19,18 @@ fn reached(t: &Texts, w: &Accepted) -> Vec<String> {
     found.extend(relations(&Evaluator, t, w).unwrap_or_else(|e| vec![format!("read back: {e}")]));
     found.extend(counted::relations(&Evaluator, t).err().map(|e| format!("counted: {e}")));
     found
+}
+
+/// What a question comes to.
+fn answered(facts: &[u8], c: &Chain) -> Vec<String> {
+    match chain::question(facts, &c.name, &c.first, &c.second, c.room).and_then(|q| Ok((q.answer()?, q))) {
+        Ok((found, q)) => {
+            let kinds = comes_first::of_all(&q, &found).unwrap_or_else(|e| vec![format!("first chain: {e}")]);
+            [vec!["chain".to_string()], kinds].concat()
+        }
+        Err((17, _)) if c.first == c.second => vec!["chain refused 17".into(), "chain refused 17 with equal ends".into()],
+        Err((row, _)) => vec![format!("chain refused {row:2}")],
+    }
 }
 
 fn main() {
@@ -47,13 +59,7 @@ fn main() {
             }
         };
         *tally.entry(what).or_default() += 1;
-        for c in t.chains {
-            let what = match chain(&t.facts, &c.name, &c.first, &c.second, c.room) {
-                Ok(_) => "chain".to_string(),
-                Err((row, _)) => format!("chain refused {row:2}"),
-            };
-            *tally.entry(what).or_default() += 1;
-        }
+        t.chains.iter().flat_map(|c| answered(&t.facts, c)).for_each(|what| *tally.entry(what).or_default() += 1);
     }
     for (what, n) in tally {
         println!("{n:7} {what}");
