@@ -1,4 +1,5 @@
-"""Times of six queries over 64 elements, 220 pairs and 20 held, in relcalc and beside it in SQLite, SWI-Prolog, clingo and C by hand.
+"""Times of six queries over 64 elements, 220 pairs and 20 held, in relcalc and beside it in SQLite, SWI-Prolog, clingo and C by hand; then of
+relcalc's other parts and calls.
 
 Every system must print the same rows. bench/run builds the programs that this starts."""
 import os
@@ -75,10 +76,16 @@ def facts(elements, pairs, held):
     return "\n".join(lines) + "\n"
 
 
-def program(*words, seconds=None):
-    """The times in a program's first line, and the rows after it."""
+def paged(*words, seconds=None):
+    """The times in a program's first line, and the page after it."""
     first, _, page = subprocess.run(words, check=True, capture_output=True, text=True, timeout=seconds).stdout.partition("\n")
-    return [float(t) for t in first.split()], sorted(page.splitlines())
+    return [float(t) for t in first.split()], page
+
+
+def program(*words, seconds=None):
+    """The times in a program's first line, and the rows after it, sorted."""
+    times, page = paged(*words, seconds=seconds)
+    return times, sorted(page.splitlines())
 
 
 def shortest(call):
@@ -339,6 +346,52 @@ def chaining():
     table(["chain", "elements", "call", "less reading"], rows)
 
 
+def files():
+    """Two files of 250 lines, 30 pairs in both; then two at the length limit, with the same facts and with different ones, whose result is too long.
+    Falling, each fact goes before all that a join has entered."""
+    pairs = random.Random(250).sample([(a, b) for a in ELEMENTS for b in ELEMENTS if a != b], 430)
+    held = [r.sample(ELEMENTS, 20) for r in (random.Random(1), random.Random(2))]
+    yield "250 lines each", facts([], pairs[:230], held[0]), facts([], pairs[200:], held[1])
+    most = [falling("S", LENGTH // 6 - 4096) + falling("R", 4096), falling("Q", LENGTH // 6 - 4096) + falling("P", 4096)]
+    for order, turn in (("rising", -1), ("falling", 1)):
+        first, second = ("".join(lines[::turn]) for lines in most)
+        yield f"the same facts, {order}", first, first
+        yield f"different facts, {order}", *((second, first) if turn < 0 else (first, second))
+
+
+def in_order(*texts):
+    """What a join of texts without quotes must write."""
+    return "".join(" ".join(words) + "\n" for words in sorted({tuple(line.split()) for text in texts for line in text.splitlines()}))
+
+
+def entered(*rows):
+    """The rows of both files put into one table and read from it in order."""
+    db = sqlite3.connect(":memory:")
+    db.execute("CREATE TABLE facts (r TEXT, a TEXT, b TEXT, PRIMARY KEY (r, a, b)) WITHOUT ROWID")
+    for values in rows:
+        db.executemany("INSERT OR IGNORE INTO facts VALUES (?, ?, ?)", values)
+    return db.execute("SELECT r, a, b FROM facts ORDER BY 1, 2, 3").fetchall()
+
+
+def joining():
+    """What is written must be what Python, SQLite and C by sorting lines have."""
+    rows = []
+    for name, *texts in files():
+        paths = [file(f"{which}.rsf", text) for which, text in zip(("first", "second"), texts)]
+        want = in_order(*texts)
+        (call, unwritten), got = paged(os.path.join(to, "join"), *paths)
+        (lines,), by_hand = paged(os.path.join(to, "lines"), *paths)
+        values = [[(line.split() + [""])[:3] for line in text.splitlines()] for text in texts]
+        loaded, union = shortest(lambda: entered(*values))
+        due = want if len(want) <= LENGTH else f"refused 21 {len(want)}\n"
+        if (got, by_hand, "".join(" ".join(row).rstrip() + "\n" for row in union)) != (due, want, want):
+            sys.exit(f"join, {name}: different lines")
+        written = [f"{len(want):,}", f"{call:,.1f}", f"{call - unwritten:,.1f}"] if got == want else ["refused 21", f"{call:,.1f}", "none"]
+        counts = [f"{len(text.splitlines()):,}" for text in (texts[0], want)]
+        rows.append([name, *counts, *written, f"{loaded:,.1f}", f"{lines:,.1f}"])
+    table("files,lines in each,different,bytes written,join,of it writing,SQLite with load,C by lines".split(","), rows)
+
+
 print(f"SQLite {sqlite3.sqlite_version}, Python {sys.version.split()[0]}; shortest times in microseconds\n")
 compared()
 print()
@@ -351,3 +404,5 @@ print()
 counting()
 print()
 chaining()
+print()
+joining()

@@ -1,4 +1,4 @@
-/* relcalc: RML queries over RSF facts, four calls. Link librelcalc_c.a (rt staticlib relcalc_c).
+/* relcalc: RML queries over RSF facts, five calls. Link librelcalc_c.a (rt staticlib relcalc_c).
 
    Each call answers from what it is lent and from nothing else. It takes any bytes, allocates nothing, keeps nothing, opens
    nothing and always returns. Calls may run at the same time on several threads. One call needs less than 256 KiB of stack.
@@ -24,11 +24,11 @@ extern "C" {
 #endif
 
 /* Limits. */
-#define RELCALC_FACTS_BYTES 32768
+#define RELCALC_FACTS_BYTES 32768   /* also the most that a join writes */
 #define RELCALC_QUERY_BYTES 16384
 #define RELCALC_QUERY_TOKENS 2048
-#define RELCALC_ELEMENTS 64         /* in the facts and on left-hand sides together */
-#define RELCALC_RELATIONS 16        /* in facts and query together */
+#define RELCALC_ELEMENTS 64         /* in the facts and on left-hand sides together; in both texts of a join */
+#define RELCALC_RELATIONS 16        /* in facts and query together; in both texts of a join */
 #define RELCALC_ARITY 3
 #define RELCALC_NAME_BYTES 32       /* a name, an element, a string, the digits of a number */
 #define RELCALC_NESTING 32
@@ -43,7 +43,7 @@ extern "C" {
    Rows are tested in this order: 1; 2 over all lines read; then line by line, in each 3, then per element 4 and, at the first too
    many, 5; then 5 for another arity, 6, 7. Then 8; 9; 13 for tokens; 10 with 19 and with 13 for nesting, left to right, at one token 10,
    then 19, then 13; 18 by token; 11, 5, 6 by token; 13 then 12 by statement; 7; 14. So a refusal 5, 6 or 7 is one of the facts exactly
-   where the facts with an empty query have it too. */
+   where the facts with an empty query have it too. 15 to 17 are of relcalc_chain, 20 and 21 of relcalc_join, which say when. */
 enum {
     RELCALC_FACTS_TOO_LONG = 1,      /* 32768: facts over 32,768 bytes */
     RELCALC_FACT_BYTE = 2,           /* the byte: in the lines read, not 9, 10 or 32..126, and no 13 that belongs to a line end */
@@ -69,11 +69,16 @@ enum {
     RELCALC_PATTERN = 18,            /* the string after an @, its opening quote: an empty or malformed pattern. A pattern is one or more
                                         branches parted by "|", each one or more of "^", "$", or a character, ".", set or "(" pattern ")"
                                         with at most one of "*", "+", "?", "{m,n}"; docs/QUERIES.md has the forms */
-    RELCALC_NUMBER = 19              /* the token: a number over 999,999 or a ninth summand's first */
+    RELCALC_NUMBER = 19,             /* the token: a number over 999,999 or a ninth summand's first */
+    RELCALC_FIRST_ARITY = 20,        /* the name, in the second text: not the arity that the first text gives this relation */
+    RELCALC_RESULT_TOO_LONG = 21     /* the length needed: over 32,768 bytes, or more than the output has */
 };
 
 /* Which text a part stands in. */
 enum { RELCALC_IN_FACTS = 0, RELCALC_IN_QUERY = 1 };
+
+/* Which text of a join a refusal is of. */
+enum { RELCALC_OF_NEITHER = 0, RELCALC_OF_FIRST = 1, RELCALC_OF_SECOND = 2 };
 
 /* How a run ended. */
 enum { RELCALC_DONE = 0, RELCALC_SPENT = 1, RELCALC_FULL = 2 };
@@ -151,6 +156,26 @@ typedef struct {
 relcalc_chained relcalc_chain(const uint8_t *facts, size_t facts_len, const uint8_t *name, size_t name_len,
                               const uint8_t *first, size_t first_len, const uint8_t *second, size_t second_len,
                               uint8_t *buffer, size_t buffer_len);
+
+typedef struct {
+    uint64_t refusal, place;
+    uint64_t text;   /* that is refused: RELCALC_OF_FIRST, RELCALC_OF_SECOND or RELCALC_OF_NEITHER, which also stands at success */
+    uint64_t length; /* bytes of output */
+} relcalc_joined;
+
+/* Writes the facts of two texts as one. A line is the relation's name, each element after one space, and byte 10. Relations are in byte
+   order of name, a prefix first; a relation's tuples ascend, column by column, by their elements' numbers among the elements of both
+   texts; each tuple is one line. An element is in quotes throughout if a fact of either text quoted it, and so each that is empty or
+   holds a blank. No comment, byte 13 or repeated line is written. Each text is read by itself: its dot line ends that text alone.
+   Read as facts, what is written has the tuples of both texts, relation by relation and text for text; without facts it is empty. The
+   two texts may be one and the same; the output overlaps neither. Bytes of output past the length are unchanged.
+   Refused: length is 0 and the output is unchanged. First 1 to 7 of the first text, with text 1. Then, with text 2 and a place in the
+   second: 1; 2; line by line 3, 4, 5 for too many elements, then 20 where the first text has the relation with another arity, or 5 where
+   it has no such relation and an earlier line of the second gives another arity, then 6 and 7, which count those of both texts.
+   Last 21, with text 0. If its place is at most 32,768, lend that many bytes and call again; if it is over, no longer output helps. An
+   output of RELCALC_FACTS_BYTES is enough for all that can be written. */
+relcalc_joined relcalc_join(const uint8_t *first, size_t first_len, const uint8_t *second, size_t second_len,
+                            uint8_t *output, size_t output_len);
 
 #ifdef __cplusplus
 }

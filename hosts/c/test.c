@@ -1,5 +1,5 @@
 /* The calls from C: the worked example, facts saved with CR LF, patterns, printed quotes, counts of tuples, sums and ratios, first
-   chains, refusals, null and equal texts, the largest sizes, a small stack. */
+   chains, joined texts, refusals, null and equal texts, the largest sizes, a small stack. */
 #define _POSIX_C_SOURCE 200809L
 #include "lent.h"
 #include "relcalc.h"
@@ -11,6 +11,7 @@
 _Static_assert(sizeof(relcalc_record) == 6 * 8 && offsetof(relcalc_record, count) == 5 * 8, "a record's parts");
 _Static_assert(sizeof(relcalc_checked) == (5 + 6 * 16) * 8 && offsetof(relcalc_checked, records) == 5 * 8, "a check's parts");
 _Static_assert(sizeof(relcalc_ran) == (5 + 16) * 8 && offsetof(relcalc_ran, counts) == 5 * 8, "a run's parts");
+_Static_assert(sizeof(relcalc_joined) == 4 * 8 && offsetof(relcalc_joined, length) == 3 * 8, "a join's parts");
 
 static const char F[] = "On C10 C5\nOn C5 C2\nOn B7 C10\nHeld B7\n";
 static const char F_cr_lf[] = "On C10 C5\r\nOn C5 C2\r\nOn B7 C10\r\nHeld B7\r\n";
@@ -49,6 +50,11 @@ static relcalc_chained chain(const char *f, const char *name, const char *a, con
 {
     return relcalc_chain(lent_text(f), length(f), lent_text(name), length(name), lent_text(a), length(a), lent_text(b), length(b),
                          lent_bytes(o), room);
+}
+
+static relcalc_joined join(const char *first, const char *second, uint8_t *o, size_t room)
+{
+    return relcalc_join(lent_text(first), length(first), lent_text(second), length(second), lent_bytes(o), room);
 }
 
 static int refused(relcalc_ran r, uint64_t refusal, uint64_t place)
@@ -375,6 +381,195 @@ static void refused_chains(void)
     EXPECT(unchained("R a\nR a b\n", "S", "x", "y", 0, RELCALC_ARITY_WRONG, 8));
 }
 
+/* a join that writes these lines; the output's other bytes stay */
+static int joined(const char *first, const char *second, size_t room, const char *lines)
+{
+    static uint8_t due[sizeof output];
+    size_t written = strlen(lines);
+    memset(output, 7, sizeof output), memset(due, 7, sizeof due), memcpy(due, lines, written);
+    relcalc_joined j = join(first, second, output, room);
+    return !memcmp(&j, &(relcalc_joined){.length = written}, sizeof j) && !memcmp(output, due, sizeof due);
+}
+
+/* a join refused, whose output stays */
+static int unjoined(const char *first, const char *second, size_t room, uint64_t refusal, uint64_t place, uint64_t text)
+{
+    static uint8_t longer[sizeof output + 99], due[sizeof longer];
+    memset(longer, 7, sizeof longer), memset(due, 7, sizeof due);
+    relcalc_joined j = join(first, second, longer, room);
+    return !memcmp(&j, &(relcalc_joined){.refusal = refusal, .place = place, .text = text}, sizeof j) && !memcmp(longer, due, sizeof due);
+}
+
+static int refused_first(const char *first, const char *second, uint64_t refusal, uint64_t place)
+{
+    return unjoined(first, second, sizeof output, refusal, place, RELCALC_OF_FIRST);
+}
+
+static int refused_second(const char *first, const char *second, uint64_t refusal, uint64_t place)
+{
+    return unjoined(first, second, sizeof output, refusal, place, RELCALC_OF_SECOND);
+}
+
+static int too_long(const char *first, const char *second, size_t room, uint64_t needed)
+{
+    return unjoined(first, second, room, RELCALC_RESULT_TOO_LONG, needed, RELCALC_OF_NEITHER);
+}
+
+/* joined in this order and the other, with room to spare, just enough and one byte short; what is written joined with itself is the same */
+static int joins(const char *first, const char *second, const char *lines)
+{
+    size_t n = strlen(lines);
+    return joined(first, second, sizeof output, lines) && joined(first, second, n, lines) && joined(second, first, n, lines) &&
+           joined(lines, lines, n, lines) && (n == 0 || too_long(first, second, n - 1, n));
+}
+
+/* relations in byte order of name, tuples ascending, each once */
+static void joined_texts(void)
+{
+    EXPECT(joins("R a\nR b\n", "R b\nR c\n", "R a\nR b\nR c\n"));
+    EXPECT(joins(F, "Rated \"B7\" AA\r\nHeld C5\r\n",
+                 "Held \"B7\"\nHeld C5\nOn \"B7\" C10\nOn C10 C5\nOn C5 C2\nRated \"B7\" AA\n"));
+    EXPECT(joins("b x\nA x\n_a x\nA2 x\n", "A1 x\nA10 x\nA x\nB x\n", "A x\nA1 x\nA10 x\nA2 x\nB x\n_a x\nb x\n"));
+    EXPECT(joins("R m\n", "R z\nR a\n", "R a\nR m\nR z\n"));
+    EXPECT(joins("R b a\nR a c\n", "R a b\nR aa a\nR C2 z\nR C10 z\n", "R C10 z\nR C2 z\nR a b\nR a c\nR aa a\nR b a\n"));
+    EXPECT(joins("T b a a\nT a b c\n", "T a b a\nT a a z\n", "T a a z\nT a b a\nT a b c\nT b a a\n"));
+    EXPECT(joins("P\n", "P \nQ", "P\nQ\n"));
+    EXPECT(joins("R a\nR a\n", "S b\nS b\nS  b\n", "R a\nS b\n"));
+    EXPECT(joins("R  a\t\tb \t\n", "R\tc d", "R a b\nR c d\n"));
+    EXPECT(joins("# one\n\n \t\nR a\n", "\n#\nR b\n#", "R a\nR b\n"));
+    EXPECT(joins("R a\n.\n", "R b\n", "R a\nR b\n"));
+    EXPECT(joins("R a\r\nR b\r", "R c\nR b\r\n", "R a\nR b\nR c\n"));
+    EXPECT(joins("\r\n \r\nR a\r\n", "\r", "R a\n"));
+}
+
+/* in quotes throughout if a fact of either text quoted it */
+static void joined_quotes(void)
+{
+    EXPECT(joins("S a\nT a b\n", "R \"a\"\n", "R \"a\"\nS \"a\"\nT \"a\" b\n"));
+    EXPECT(joins("R a\n", "R \"a\"\n", "R \"a\"\n"));
+    EXPECT(joins("R a\nR \"a\"\n", NULL, "R \"a\"\n"));
+    EXPECT(joins("R \"a\"\n", "R B\n", "R B\nR \"a\"\n"));
+    EXPECT(joins("R !\n", "R \"\"\n", "R \"\"\nR !\n"));
+    EXPECT(joins("Held \"5Y off the run\"\n", "Held \"\t\"\nHeld \"\"\n", "Held \"\"\nHeld \"\t\"\nHeld \"5Y off the run\"\n"));
+    EXPECT(joins("R a\n.\nR \"a\"\n", "# \"a\"\nS a\n. R \"a\"", "R a\nS a\n"));
+}
+
+static void joined_empty_and_equal(void)
+{
+    EXPECT(joins(NULL, NULL, "") && joins("# a\n\n", ".\nR a\n", ""));
+    EXPECT(joins(NULL, "S b\nR a", "R a\nS b\n"));
+    relcalc_joined none = join(NULL, NULL, NULL, 0);
+    EXPECT(!memcmp(&none, &(relcalc_joined){0}, sizeof none));
+    EXPECT(too_long(NULL, "P", 0, 2));
+    /* one text lent twice, and one that is the end of the other */
+    static const char due[] = "Held B7\nOn B7 C10\nOn C10 C5\nOn C5 C2\n";
+    EXPECT(joins(F, F, due) && joins(F, F + 10, due));
+}
+
+static void refused_joins(void)
+{
+    EXPECT(refused_first("R a\nR b\rc\n", "S \"\n", RELCALC_FACT_BYTE, 7) && refused_second("R a\n", "R b\rc\n", RELCALC_FACT_BYTE, 3));
+    EXPECT(refused_first("TRUE a\n", "9\n", RELCALC_FACT_NAME, 0) && refused_second("R a\n", "R a\n R b\n", RELCALC_FACT_NAME, 4));
+    EXPECT(refused_first("R a\nR \"b\n", "R a\n", RELCALC_FACT_ELEMENT, 6) &&
+           refused_second("R a\n", "R a\nR \"b\n", RELCALC_FACT_ELEMENT, 6));
+    EXPECT(refused_first("S a b c d\n", "R a\n", RELCALC_ARITY_WRONG, 8) && refused_second("R a\n", "S a b c d\n", RELCALC_ARITY_WRONG, 8));
+    EXPECT(refused_first("R a b\nR c\n", NULL, RELCALC_ARITY_WRONG, 8) &&
+           refused_first("R a b\nR c\n", "R a b c\n", RELCALC_ARITY_WRONG, 8));
+    EXPECT(refused_second("S a\n", "R a\nR b \"c\"\n", RELCALC_ARITY_WRONG, 8) &&
+           refused_second("S a\n", "R a\nR\n", RELCALC_ARITY_WRONG, 4));
+    /* 20 where the first text has the relation, at the name */
+    EXPECT(refused_second("R a b\n", "R a b\nR a\n", RELCALC_FIRST_ARITY, 6) && refused_second("R\n", "R a\n", RELCALC_FIRST_ARITY, 0));
+    EXPECT(refused_second("R a\n", "S x\nR\n", RELCALC_FIRST_ARITY, 4) && refused_second("R a\n", "R a b\n9\n", RELCALC_FIRST_ARITY, 0));
+    EXPECT(refused_second("R a\n", "R a b c d\n", RELCALC_ARITY_WRONG, 8) &&
+           refused_second("R a\n", "R a b\"c\n", RELCALC_FACT_ELEMENT, 4));
+    EXPECT(refused_second("R a\n", "R a b\n#\x7F\n", RELCALC_FACT_BYTE, 7) &&
+           refused_second("R a\n.\nR a b\n", "R b c\n", RELCALC_FIRST_ARITY, 0));
+    EXPECT(unjoined("R a\n", "R\n", 0, RELCALC_FIRST_ARITY, 0, RELCALC_OF_SECOND));
+    static char hashes[32770];
+    memset(hashes, '#', 32769);
+    EXPECT(refused_first(hashes, "9\n", RELCALC_FACTS_TOO_LONG, 32768) && refused_second("R a\n", hashes, RELCALC_FACTS_TOO_LONG, 32768));
+    EXPECT(refused_first("9\n", hashes, RELCALC_FACT_NAME, 0));
+    hashes[32768] = 0;
+    EXPECT(joined(hashes, hashes, 0, ""));
+}
+
+/* lines N00, N01, .. */
+static char *names(char *at, int from, int to)
+{
+    for (int i = from; i < to; i++)
+        at += sprintf(at, "N%02d\n", i);
+    return at;
+}
+
+/* lines E e00, E e01, .. */
+static char *elements(char *at, int count)
+{
+    for (int i = 0; i < count; i++)
+        at += sprintf(at, "E e%02d\n", i);
+    return at;
+}
+
+/* 6 and 7 count those of both texts */
+static void joined_limits(void)
+{
+    static char first[999], second[99], due[999];
+    names(first, 0, 16);
+    EXPECT(refused_second(first, "# a\nN00\nM\n", RELCALC_TOO_MANY_RELATIONS, 8) && joins(first, "N15\nN00\n", first));
+    names(due, 0, 16), names(first, 0, 10), names(second, 10, 16);
+    EXPECT(joins(first, second, due));
+    names(second, 10, 17);
+    EXPECT(refused_second(first, second, RELCALC_TOO_MANY_RELATIONS, 24) && refused_second(second, first, RELCALC_TOO_MANY_RELATIONS, 36));
+    names(first, 0, 17);
+    EXPECT(refused_first(first, "9\n", RELCALC_TOO_MANY_RELATIONS, 64));
+    elements(first, 64);
+    EXPECT(refused_second(first, "F e00 new\n", RELCALC_TOO_MANY_ELEMENTS, 6) && joined(first, "E e63\n", sizeof output, first));
+    EXPECT(refused_second(first, "F \"new\"\nE new one\n", RELCALC_TOO_MANY_ELEMENTS, 2));
+    EXPECT(refused_second(first, "E new one\n", RELCALC_FIRST_ARITY, 0));
+    EXPECT(unjoined(first, "F new\n", 0, RELCALC_TOO_MANY_ELEMENTS, 2, RELCALC_OF_SECOND));
+    names(elements(first, 64), 0, 15);
+    EXPECT(refused_second(first, "M new\n", RELCALC_TOO_MANY_RELATIONS, 0));
+    elements(first, 65);
+    EXPECT(refused_first(first, "9\n", RELCALC_TOO_MANY_ELEMENTS, 386));
+    elements(first, 63), strcat(strcpy(due, first), "F x x\n");
+    EXPECT(refused_second(first, "F x x y\n", RELCALC_TOO_MANY_ELEMENTS, 6) && joins(first, "F x x\n", due));
+}
+
+/* pairs over 64 elements of one byte, six bytes a line, the last first or the first first */
+static char *falling(char *at, char name, int count)
+{
+    for (int i = count; i-- > 0;)
+        at += sprintf(at, "%c %c %c\n", name, '0' + i / 64, '0' + i % 64);
+    return at;
+}
+
+static char *rising(char *at, char name, int count)
+{
+    for (int i = 0; i < count; i++)
+        at += sprintf(at, "%c %c %c\n", name, '0' + i / 64, '0' + i % 64);
+    return at;
+}
+
+/* 5,461 different facts, 32,766 bytes: in the slowest order, as they are written, and as many that come before them */
+static char long_facts[32770], long_lines[32770], others[32770];
+
+static void longest_joins(void)
+{
+    falling(falling(long_facts, 'S', 1365), 'R', 4096);
+    rising(rising(long_lines, 'R', 4096), 'S', 1365);
+    falling(falling(others, 'Q', 1365), 'P', 4096);
+    EXPECT(strlen(long_facts) == 32766 && joins(long_facts, long_lines, long_lines) && joins(long_facts, NULL, long_lines));
+    EXPECT(too_long(long_facts, others, sizeof output, 2 * 32766));
+    static char due[32770] = "P\n";
+    strcat(due, long_lines);
+    EXPECT(joined(long_facts, "P", 32768, due) && too_long(long_facts, "P", 32767, 32768));
+    /* a longer output is of no use */
+    EXPECT(too_long(long_facts, "Pq", 32768, 32769) && too_long(long_facts, "Pq", sizeof output + 99, 32769));
+    strcat(strcpy(due, long_facts), "Pq");
+    EXPECT(too_long(due, NULL, sizeof output + 99, 32769));
+    /* the element 0 stands 128 times in R, 86 times in S and once in P */
+    EXPECT(too_long(long_facts, "P \"0\"\n", sizeof output, 32766 + 2 * (128 + 86) + 6));
+}
+
 static void refused_patterns(void)
 {
     static const char *const wrong[] = {"", "a|", "()", "*a", "^*", "a**", "a{3}", "(a", "a)", "[]", "[b-a]", "[[:alpha:]]", "\\"};
@@ -448,7 +643,7 @@ static void largest_sizes(void)
     EXPECT(chain(ring, "On", "e05", "e05", numbers, sizeof numbers).count == 65);
 }
 
-/* Checks and runs a query on a thread whose stack is filled with a pattern, and answers how much of it was used. */
+/* Makes calls on a thread whose stack is filled with a pattern, and answers how much of it was used. */
 static _Alignas(4096) uint8_t stack[1 << 20];
 
 static void *run_deep(void *query)
@@ -458,19 +653,29 @@ static void *run_deep(void *query)
     return NULL;
 }
 
-static size_t stack_used(char *query)
+/* joins a text with the longest facts */
+static void *join_long(void *first)
+{
+    relcalc_joined j = join(first, long_facts, output, sizeof output);
+    EXPECT(first == others ? j.refusal == RELCALC_RESULT_TOO_LONG : j.length == strlen(long_facts));
+    return NULL;
+}
+
+static size_t stack_of(void *(*calls)(void *), char *text)
 {
     pthread_attr_t attributes;
     pthread_t thread;
     memset(stack, 0xA5, sizeof stack);
     pthread_attr_init(&attributes);
     pthread_attr_setstack(&attributes, stack, sizeof stack);
-    EXPECT(!pthread_create(&thread, &attributes, run_deep, query) && !pthread_join(thread, NULL));
+    EXPECT(!pthread_create(&thread, &attributes, calls, text) && !pthread_join(thread, NULL));
     size_t free = 0;
     while (free < sizeof stack && stack[free] == 0xA5)
         free++;
     return sizeof stack - free;
 }
+
+static size_t stack_used(char *query) { return stack_of(run_deep, query); }
 
 /* PRINT of `levels` times `open`, n conjunctions of P() and an atom, and as often `close`, the last time `last`. */
 static char *deep_query(const char *open, int levels, int n, const char *atom, const char *close, const char *last)
@@ -502,6 +707,8 @@ static void small_stack(void)
         { "a pattern of 15 groups within 32 levels",
           stack_used(deep_query("(", 32, 0, "@\"(((((((((((((((a)))))))))))))))\"(_)", ")", ")")) },
         { "a pattern of 9 repeated groups", stack_used(deep_query("", 0, 0, "@\"(((((((((a*)*)*)*)*)*)*)*)*)*x\"(_)", "", "")) },
+        { "a join of the longest texts with the same facts", stack_of(join_long, long_lines) },
+        { "a join of the longest texts with different facts", stack_of(join_long, others) },
     };
     for (size_t i = 0; i < sizeof stacks / sizeof *stacks; i++) {
         printf("stack: %zu bytes in %s\n", stacks[i].used, stacks[i].shape);
@@ -527,6 +734,12 @@ int main(void)
     first_chains();
     first_cycles();
     refused_chains();
+    joined_texts();
+    joined_quotes();
+    joined_empty_and_equal();
+    refused_joins();
+    joined_limits();
+    longest_joins();
     refusals();
     empty_and_equal();
     largest_sizes();

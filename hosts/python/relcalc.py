@@ -16,6 +16,7 @@ from relcalc_pattern import Fault, first_fault
 
 STORE_WORDS = 70656  # enough for every accepted pair of texts
 CHAIN_BYTES = 65  # the least buffer for a chain, and enough for each
+FACTS_BYTES = 32768  # the most that facts may have, and enough for all that a join writes
 BEFORE, AFTER = 50, 40  # bytes of a line that are shown before and after a place; a string that begins there is shown whole
 
 
@@ -26,8 +27,15 @@ class Ending(enum.Enum):
 
 
 class Text(enum.Enum):
+    """The facts or the query, numbered as in a part, or one of the two texts of a join."""
+
     FACTS = 0
     QUERY = 1
+    FIRST = 2
+    SECOND = 3
+
+    def __str__(self):
+        return ("facts", "query", "first text", "second text")[self.value]
 
 
 class Refusal(enum.Enum):
@@ -52,6 +60,8 @@ class Refusal(enum.Enum):
     NO_CHAIN = 17
     PATTERN = 18
     NUMBER = 19
+    FIRST_ARITY = 20
+    RESULT_TOO_LONG = 21
 
 
 RULES = {
@@ -80,6 +90,13 @@ RULES = {
     Refusal.PATTERN: "a pattern is one or more branches parted by |, each one or more pieces: ^, $, or a character, ., set or group with "
     "at most one repeat sign *, +, ? or {m,n}",
     Refusal.NUMBER: "a sum has at most 8 summands, each a count #(e) or a number, and a number is at most 999,999",
+    Refusal.FIRST_ARITY: "a relation of both texts has as many elements in the second as in the first",
+    Refusal.RESULT_TOO_LONG: "a joined text has at most 32,768 bytes, and no more than the output",
+}
+JOIN_RULES = {
+    **RULES,
+    Refusal.TOO_MANY_RELATIONS: "both texts together have at most 16 relations",
+    Refusal.TOO_MANY_ELEMENTS: "both texts together have at most 64 elements",
 }
 
 
@@ -92,9 +109,21 @@ class Refused(Exception):
         self.place = place
 
 
+class RefusedJoin(Refused):
+    """A refusal of `join` and the text that is refused: first, second, or None with 21, whose place is the length needed."""
+
+    def __init__(self, refusal, place, text):
+        super().__init__(refusal, place)
+        self.text = text
+
+    def __str__(self):
+        where = f"({self.place})" if self.text is None else f"at {self.place} of the {self.text}"
+        return f"refused {self.refusal.value} {where}: {JOIN_RULES[self.refusal]}"
+
+
 @dataclass(frozen=True)
 class Part:
-    """A part of one of the two texts."""
+    """A part of the facts or of the query."""
 
     text: Text
     offset: int
@@ -150,9 +179,9 @@ class At:
 
 @dataclass(frozen=True)
 class Explained:
-    """Where and why texts were refused; `at` is None for 14 to 17, whose place is no place in a text.
+    """Where and why texts were refused; `at` is None for 14 to 17 and 21, whose place is no place in a text.
 
-    `fault` is what is wrong with a refused pattern or number, where that can be told; the caret is then shown under its byte.
+    `fault` is what is wrong with a refused pattern, number or arity, where that can be told; the caret is then shown under its byte.
     """
 
     refused: Refused
@@ -164,7 +193,7 @@ class Explained:
         number = self.refused.refusal.value
         if self.at is None:
             return f"refused {number} ({self.refused.place}): {self.rule}"
-        place = f"{self.at.text.name.lower()}:{self.at.line}:{self.at.column}"
+        place = f"{self.at.text}:{self.at.line}:{self.at.column}"
         head = f"{place}: refused {number} at {_named(self.at.found)}: {self.rule}"
         caret = self.at.caret
         if self.fault is not None:
@@ -198,8 +227,13 @@ class _Chained(ctypes.Structure):
     _fields_ = _words("refusal", "place", "count")
 
 
+class _Joined(ctypes.Structure):
+    _fields_ = _words("refusal", "place", "text", "length")
+
+
 _TEXT = [ctypes.c_char_p, ctypes.c_size_t]
 _BUFFER = [ctypes.POINTER(ctypes.c_uint8), ctypes.c_size_t]
+_OF = (None, Text.FIRST, Text.SECOND)  # by the number that a join answers
 
 
 def _bytes(text):
@@ -238,6 +272,8 @@ class Relcalc:
         self._element.argtypes, self._element.restype = _TEXT * 2 + [ctypes.c_size_t], _Part
         self._chain = library.relcalc_chain
         self._chain.argtypes, self._chain.restype = _TEXT * 4 + _BUFFER, _Chained
+        self._join = library.relcalc_join
+        self._join.argtypes, self._join.restype = _TEXT * 2 + _BUFFER, _Joined
 
     def check(self, facts, query):
         """Whether a run would accept the texts, and what it needs."""
@@ -283,8 +319,19 @@ class Relcalc:
         query = b"PRINT ENDL;"
         return [self.element(facts, query, n).of(facts, query) for n in self.chain(facts, name, first, second)]
 
+    def join(self, first, second, room=FACTS_BYTES):
+        """The facts of two texts as one text: relations in byte order of name, tuples ascending, each once.
+
+        An element is in quotes if either text quoted it. Read as facts it has the tuples of both, relation by relation.
+        """
+        output = _room(ctypes.c_uint8, room)
+        a = self._join(*_lent(_bytes(first), _bytes(second)), output, room)
+        if a.refusal:
+            raise RefusedJoin(Refusal(a.refusal), a.place, _OF[a.text])
+        return bytes(output[: a.length])
+
     def explain(self, refused, facts, query=b""):
-        """Where and why the texts of a call were refused."""
+        """Where and why the texts of a call were refused; `explain_join` says it of a join."""
         facts, query = _bytes(facts), _bytes(query)
         which = self._text_of(refused, facts)
         at = which and _at(refused, which, facts if which is Text.FACTS else query)
@@ -293,13 +340,27 @@ class Relcalc:
     def _text_of(self, refused, facts):
         """Which text the place is in. 5, 6 and 7 are of the facts where the facts alone have them."""
         number = refused.refusal.value
-        if 13 < number < 18:
+        if 13 < number < 18 or number > 19:
             return None
         if number < 5:
             return Text.FACTS
         alone = self._check(*_lent(facts, b""))
         same = (alone.refusal, alone.place) == (number, refused.place)
         return Text.FACTS if number < 8 and same else Text.QUERY
+
+    def explain_join(self, refused, first, second):
+        """Where and why a text of a join was refused."""
+        first, second = _bytes(first), _bytes(second)
+        at = refused.text and _at(refused, refused.text, first if refused.text is Text.FIRST else second)
+        clash = at and refused.refusal is Refusal.FIRST_ARITY
+        return Explained(refused, at, JOIN_RULES[refused.refusal], self._arity_fault(first, at.found) if clash else None)
+
+    def _arity_fault(self, first, name):
+        """What the first text gives a relation that the second has with another arity."""
+        query = b"PRINT ENDL;"
+        checked = self._check(*_lent(first, query))
+        arities = [r.arity for r in checked.records[: checked.relations] if first[r.offset : r.offset + r.length] == name]
+        return Fault(0, f"one with {arities[0] or 'none'} in the first") if arities else None
 
 
 def _run_of(text, start, ends):
@@ -348,7 +409,7 @@ def _at(refused, which, text):
     if refused.refusal in (Refusal.FACTS_TOO_LONG, Refusal.FACT_BYTE, Refusal.QUERY_TOO_LONG):
         length = 1
     else:
-        length = _word(text[seen:end]) if which is Text.FACTS else _token(text[seen:end])
+        length = _token(text[seen:end]) if which is Text.QUERY else _word(text[seen:end])
     found = text[place : place + max(length, 1)]
     # a 13 before the place, as rows 1 and 8 can have it, is not shown
     first = max(start, seen - BEFORE, text.rfind(b"\r", start, seen) + 1)

@@ -11,7 +11,7 @@ from dataclasses import dataclass
 class Fault:
     """What is wrong, and at which byte of the pattern, from 0; its length where something is lacking at its end.
 
-    With a refused number it is the token's first byte.
+    With a refused number or arity it is the first byte of what was refused.
     """
 
     offset: int

@@ -1,5 +1,5 @@
 """The wrapper over the shared object: the worked example, facts saved with CR LF, patterns, printed quotes, counts of tuples, sums and
-ratios, first chains, refusals, empty and equal texts, the largest sizes, the guide's examples."""
+ratios, first chains, joined texts, refusals, empty and equal texts, the largest sizes, the guide's examples."""
 import ctypes
 import itertools
 import os
@@ -8,7 +8,7 @@ import sys
 import unittest
 
 import relcalc
-from relcalc import CHAIN_BYTES, STORE_WORDS, Ending, Part, Refusal, Refused, Relcalc, Text
+from relcalc import CHAIN_BYTES, FACTS_BYTES, STORE_WORDS, Ending, Part, Refusal, Refused, RefusedJoin, Relcalc, Text
 from relcalc_pattern import Fault, first_fault
 
 FACTS = b"On C10 C5\nOn C5 C2\nOn B7 C10\nHeld B7\n"
@@ -121,6 +121,90 @@ def chains(pairs, first, second):
             chain = [first, *between, second]
             if all(pair in pairs for pair in zip(chain, chain[1:])):
                 yield chain
+
+
+# two texts, and what is written for them
+JOINS = [
+    (b"R a\nR b\n", b"R b\nR c\n", b"R a\nR b\nR c\n"),
+    (FACTS, b"Rated B7 AA\r\nHeld C5\r\n", b"Held B7\nHeld C5\nOn B7 C10\nOn C10 C5\nOn C5 C2\nRated B7 AA\n"),
+    (b"b x\nA x\n_a x\nA2 x\n", b"A1 x\nA10 x\nA x\nB x\n", b"A x\nA1 x\nA10 x\nA2 x\nB x\n_a x\nb x\n"),
+    (b"R m\n", b"R z\nR a\n", b"R a\nR m\nR z\n"),
+    (b"R b a\nR a c\n", b"R a b\nR aa a\nR C2 z\nR C10 z\n", b"R C10 z\nR C2 z\nR a b\nR a c\nR aa a\nR b a\n"),
+    (b"T b a a\nT a b c\n", b"T a b a\nT a a z\n", b"T a a z\nT a b a\nT a b c\nT b a a\n"),
+    (b"P\n", b"P \nQ", b"P\nQ\n"),
+    (b"R a\nR a\n", b"S b\nS b\nS  b\n", b"R a\nS b\n"),
+    (b"R  a\t\tb \t\n", b"R\tc d", b"R a b\nR c d\n"),
+    (b"# one\n\n \t\nR a\n", b"\n#\nR b\n#", b"R a\nR b\n"),
+    (b"R a\n.\n", b"R b\n", b"R a\nR b\n"),
+    (b"R a\r\nR b\r", b"R c\nR b\r\n", b"R a\nR b\nR c\n"),
+    (b"\r\n \r\nR a\r\n", b"\r", b"R a\n"),
+    (b"S a\nT a b\n", b'R "a"\n', b'R "a"\nS "a"\nT "a" b\n'),
+    (b"R a\n", b'R "a"\n', b'R "a"\n'),
+    (b'R a\nR "a"\n', None, b'R "a"\n'),
+    (b'R "a"\n', b"R B\n", b'R B\nR "a"\n'),
+    (b"R !\n", b'R ""\n', b'R ""\nR !\n'),
+    (b'Held "5Y off the run"\n', b'Held "\t"\nHeld ""\n', b'Held ""\nHeld "\t"\nHeld "5Y off the run"\n'),
+    (b'R a\n.\nR "a"\n', b'# "a"\nS a\n. R "a"', b"R a\nS a\n"),
+    (None, b"S b\nR a", b"R a\nS b\n"),
+    (b"# a\n\n", b".\nR a\n", b""),
+    (None, None, b""),
+    (FACTS, FACTS, b"Held B7\nOn B7 C10\nOn C10 C5\nOn C5 C2\n"),
+    ("Held B7\n", b"Held B9\n", b"Held B7\nHeld B9\n"),
+]
+
+
+def names(start, end):
+    return b"".join(b"N%02d\n" % i for i in range(start, end))
+
+
+def elements(count):
+    return b"".join(b"E e%02d\n" % i for i in range(count))
+
+
+def pairs(name, count):
+    """The first pairs over 64 elements of one byte: six bytes a line."""
+    return [b"%s %c %c\n" % (name, 48 + i // 64, 48 + i % 64) for i in range(count)]
+
+
+HASHES = b"#" * (FACTS_BYTES + 1)
+# two texts, the refusal and its place, and the text that is refused
+NO_JOINS = [
+    (b"R a\nR b\rc\n", b'S "\n', Refusal.FACT_BYTE, 7, Text.FIRST),
+    (b"R a\n", b"R b\rc\n", Refusal.FACT_BYTE, 3, Text.SECOND),
+    (b"TRUE a\n", b"9\n", Refusal.FACT_NAME, 0, Text.FIRST),
+    (b"R a\n", b"R a\n R b\n", Refusal.FACT_NAME, 4, Text.SECOND),
+    (b'R a\nR "b\n', b"R a\n", Refusal.FACT_ELEMENT, 6, Text.FIRST),
+    (b"R a\n", b'R a\nR "b\n', Refusal.FACT_ELEMENT, 6, Text.SECOND),
+    (b"S a b c d\n", b"R a\n", Refusal.ARITY, 8, Text.FIRST),
+    (b"R a\n", b"S a b c d\n", Refusal.ARITY, 8, Text.SECOND),
+    (b"R a b\nR c\n", None, Refusal.ARITY, 8, Text.FIRST),
+    (b"R a b\nR c\n", b"R a b c\n", Refusal.ARITY, 8, Text.FIRST),
+    (b"S a\n", b'R a\nR b "c"\n', Refusal.ARITY, 8, Text.SECOND),
+    (b"S a\n", b"R a\nR\n", Refusal.ARITY, 4, Text.SECOND),
+    # 20 where the first text has the relation, at the name
+    (b"R a b\n", b"R a b\nR a\n", Refusal.FIRST_ARITY, 6, Text.SECOND),
+    (b"R\n", b"R a\n", Refusal.FIRST_ARITY, 0, Text.SECOND),
+    (b"R a\n", b"S x\nR\n", Refusal.FIRST_ARITY, 4, Text.SECOND),
+    (b"R a\n", b"R a b\n9\n", Refusal.FIRST_ARITY, 0, Text.SECOND),
+    (b"R a\n.\nR a b\n", b"R b c\n", Refusal.FIRST_ARITY, 0, Text.SECOND),
+    (b"R a\n", b"R a b c d\n", Refusal.ARITY, 8, Text.SECOND),
+    (b"R a\n", b'R a b"c\n', Refusal.FACT_ELEMENT, 4, Text.SECOND),
+    (b"R a\n", b"R a b\n#\x7f\n", Refusal.FACT_BYTE, 7, Text.SECOND),
+    (HASHES, b"9\n", Refusal.FACTS_TOO_LONG, 32768, Text.FIRST),
+    (b"R a\n", HASHES, Refusal.FACTS_TOO_LONG, 32768, Text.SECOND),
+    (b"9\n", HASHES, Refusal.FACT_NAME, 0, Text.FIRST),
+    # 6 and 7 count those of both texts
+    (names(0, 16), b"# a\nN00\nM\n", Refusal.TOO_MANY_RELATIONS, 8, Text.SECOND),
+    (names(0, 10), names(10, 17), Refusal.TOO_MANY_RELATIONS, 24, Text.SECOND),
+    (names(10, 17), names(0, 10), Refusal.TOO_MANY_RELATIONS, 36, Text.SECOND),
+    (names(0, 17), b"9\n", Refusal.TOO_MANY_RELATIONS, 64, Text.FIRST),
+    (elements(64), b"F e00 new\n", Refusal.TOO_MANY_ELEMENTS, 6, Text.SECOND),
+    (elements(64), b'F "new"\nE new one\n', Refusal.TOO_MANY_ELEMENTS, 2, Text.SECOND),
+    (elements(64), b"E new one\n", Refusal.FIRST_ARITY, 0, Text.SECOND),
+    (elements(64) + names(0, 15), b"M new\n", Refusal.TOO_MANY_RELATIONS, 0, Text.SECOND),
+    (elements(65), b"9\n", Refusal.TOO_MANY_ELEMENTS, 386, Text.FIRST),
+    (elements(63), b"F x x y\n", Refusal.TOO_MANY_ELEMENTS, 6, Text.SECOND),
+]
 
 
 def sixteen(*counts):
@@ -302,8 +386,8 @@ class Host(unittest.TestCase):
         self.assertEqual([bytes(r) for r in unused], [bytes(6 * 8)] * 13)
 
     def test_sizes_of_the_structs(self):
-        sizes = [ctypes.sizeof(s) for s in (relcalc._Record, relcalc._Checked, relcalc._Ran)]
-        self.assertEqual(sizes, [6 * 8, (5 + 6 * 16) * 8, (5 + 16) * 8])
+        sizes = [ctypes.sizeof(s) for s in (relcalc._Record, relcalc._Checked, relcalc._Ran, relcalc._Chained, relcalc._Joined)]
+        self.assertEqual(sizes, [6 * 8, (5 + 6 * 16) * 8, (5 + 16) * 8, 3 * 8, 4 * 8])
 
     def test_quantities(self):
         for query, page in [
@@ -413,6 +497,122 @@ class Host(unittest.TestCase):
             buffer = (ctypes.c_uint8 * 70)(*[7] * 70)
             rc._chain(b"R a b\n", 6, b"R", 1, b"a", 1, second, 1, buffer, room)
             self.assertEqual(bytes(buffer), written.ljust(70, b"\7"), (second, room))
+
+    def not_joined(self, refusal, place, text, first, second, **more):
+        refused = self.refused(refusal, place, rc.join, first, second, **more)
+        self.assertEqual((type(refused), refused.text), (RefusedJoin, text))
+        return refused
+
+    def test_joined_texts(self):
+        for first, second, lines in JOINS:
+            for texts in [(first, second), (second, first), (lines, lines)]:
+                self.assertEqual(rc.join(*texts), lines, texts)
+            self.assertEqual(rc.join(first, second, room=len(lines)), lines)
+            if lines:
+                self.not_joined(Refusal.RESULT_TOO_LONG, len(lines), None, first, second, room=len(lines) - 1)
+                self.not_joined(Refusal.RESULT_TOO_LONG, len(lines), None, first, second, room=0)
+
+    def test_refused_joins(self):
+        for first, second, refusal, place, text in NO_JOINS:
+            self.not_joined(refusal, place, text, first, second)
+            self.not_joined(refusal, place, text, first, second, room=0)
+
+    def test_limits_of_joins(self):
+        self.assertEqual(rc.join(names(0, 10), names(10, 16)), names(0, 16))
+        self.assertEqual(rc.join(names(0, 16), b"N15\nN00\n"), names(0, 16))
+        self.assertEqual(rc.join(elements(64), b"E e63\n"), elements(64))
+        self.assertEqual(rc.join(b"F x x\n", elements(63)), elements(63) + b"F x x\n")
+        self.assertEqual(rc.join(HASHES[1:], HASHES[1:]), b"")
+
+    def test_longest_joins(self):
+        rising = pairs(b"R", 4096) + pairs(b"S", 1365)
+        lines, falling = b"".join(rising), b"".join(reversed(rising))
+        others = b"".join(pairs(b"P", 4096) + pairs(b"Q", 1365))
+        self.assertEqual(rc.join(falling, lines), lines)
+        self.assertEqual(rc.join(falling, b"P"), b"P\n" + lines)
+        self.not_joined(Refusal.RESULT_TOO_LONG, 32768, None, falling, b"P", room=32767)
+        for first, second, needed in [
+            (falling, others, 2 * 32766),
+            (falling, b"Pq", 32769),
+            (falling + b"Pq", None, 32769),
+            # the element 0 stands 128 times in R, 86 times in S and once in P
+            (falling, b'P "0"\n', 32766 + 2 * (128 + 86) + 6),
+        ]:
+            # a longer output is of no use
+            for room in (FACTS_BYTES, 2 * FACTS_BYTES):
+                self.not_joined(Refusal.RESULT_TOO_LONG, needed, None, first, second, room=room)
+
+    def test_outputs_of_joins(self):
+        """Bytes past the length, and all of them on refusal, stay, which the classes do not show."""
+        for second, room, written, answer in [
+            (b"R b\n", 9, b"R a\nR b\n", (0, 0, 0, 8)),
+            (b"R b\n", 8, b"R a\nR b\n", (0, 0, 0, 8)),
+            (b"R b\n", 7, b"", (21, 8, 0, 0)),
+            (b"R b\nR\n", 9, b"", (20, 4, 2, 0)),
+            (b"R b\nS\nS a\n", 9, b"", (5, 8, 2, 0)),
+        ]:
+            output = (ctypes.c_uint8 * 12)(*[7] * 12)
+            a = rc._join(b"R a\n", 4, second, len(second), output, room)
+            self.assertEqual((a.refusal, a.place, a.text, a.length), answer)
+            self.assertEqual(bytes(output), written.ljust(12, b"\7"), (second, room))
+        a = rc._join(b'R "\n', 4, b"9", 1, output, 12)
+        self.assertEqual((a.refusal, a.place, a.text, a.length), (4, 2, 1, 0))
+
+    def test_joined_texts_read_back(self):
+        first, second = b"On C10 C5\nHeld B7\nHeld C5\nP\n", b'Held "B7"\r\nOn C2 "5Y off the run"\r\nRated B7 AA\r\n'
+        joined = rc.join(first, second)
+        self.assertEqual(joined, b'Held "B7"\nHeld C5\nOn C10 C5\nOn C2 "5Y off the run"\nP\nRated "B7" AA\n')
+        self.assertEqual([r.count for r in rc.check(joined, b"PRINT ENDL;").relations], [2, 2, 1, 1])
+        query = b'PRINT ["Held"] Held(x), ["On"] On(x,y), ["P"] P(), ["Rated"] Rated(x,y);'
+        self.assertEqual(rc.run(joined, query).output, joined)
+
+    def told_join(self, refusal, place, text, first, second):
+        return rc.explain_join(self.not_joined(refusal, place, text, first, second), first, second)
+
+    def test_words_on_refused_joins(self):
+        told = self.told_join(Refusal.FIRST_ARITY, 13, Text.SECOND, FACTS, b"Rated B7 AA\r\nOn C5\r\n")
+        self.assertEqual((told.at.text, told.at.line, told.at.column, told.at.found), (Text.SECOND, 2, 1, b"On"))
+        rule = "a relation of both texts has as many elements in the second as in the first; here one with 2 in the first"
+        self.assertEqual(str(told), f"second text:2:1: refused 20 at `On`: {rule}\n  On C5\n  ^")
+        for first, second, arity in [("R\n", "R a\n", "none"), ("R a\n", "R\n", "1"), ("R a b c\n", "R a\n", "3")]:
+            told = self.told_join(Refusal.FIRST_ARITY, 0, Text.SECOND, first, second)
+            self.assertEqual(told.fault, Fault(0, f"one with {arity} in the first"))
+        told = self.told_join(Refusal.ARITY, 19, Text.FIRST, b'Held B7\nHeld "C 5" C2\n', FACTS)
+        start = "first text:2:12: refused 5 at `C2`: a relation has 0 to 3 elements"
+        self.says(told, start, '\n  Held "C 5" C2\n             ^')
+        told = self.told_join(Refusal.ARITY, 16, Text.SECOND, FACTS, b"Rated a\nRated b c\n")
+        self.says(told, "second text:2:9: refused 5 at `c`: ", "\n  Rated b c\n          ^")
+        told = self.told_join(Refusal.FACT_BYTE, 10, Text.SECOND, FACTS, b"# a\nOn C10\r C2\r\n")
+        self.says(told, "second text:2:7: refused 2 at byte 13: ", "\n  On C10? C2\n        ^")
+        told = self.told_join(Refusal.TOO_MANY_RELATIONS, 4, Text.SECOND, names(0, 16), b"N00\nM\n")
+        self.says(told, "second text:2:1: refused 6 at `M`: both texts together have at most 16 relations\n", "\n  M\n  ^")
+        told = self.told_join(Refusal.TOO_MANY_ELEMENTS, 386, Text.FIRST, elements(65), None)
+        self.says(told, "first text:65:3: refused 7 at `e64`: both texts together have at most 64 elements\n", "\n  E e64\n    ^")
+        told = rc.explain_join(RefusedJoin(Refusal.RESULT_TOO_LONG, 32769, None), FACTS, FACTS)
+        self.assertIsNone(told.at)
+        self.says(told, "refused 21 (32769): a joined text has at most 32,768 bytes", "output")
+        self.assertIsNone(rc.explain(Refused(Refusal.FIRST_ARITY, 0), FACTS, QUERY).at)
+
+    def test_refused_joins_as_exceptions(self):
+        for first, second, words in [
+            (b"Held B7\n", b"Held\n", "refused 20 at 0 of the second text: a relation of both texts has as many"),
+            (b'Held "5Y\n', b"", "refused 4 at 5 of the first text: an element has at most 32 bytes"),
+            (names(0, 16), b"M\n", "refused 6 at 0 of the second text: both texts together have at most 16 relations"),
+        ]:
+            with self.assertRaises(RefusedJoin) as caught:
+                rc.join(first, second)
+            self.assertTrue(str(caught.exception).startswith(words), str(caught.exception))
+        refused = self.not_joined(Refusal.RESULT_TOO_LONG, 2, None, None, b"P", room=1)
+        self.assertTrue(str(refused).startswith("refused 21 (2): a joined text"), str(refused))
+
+    def test_words_on_any_joined_text_and_place(self):
+        texts = [b"", b"\r", b"\n\r\n", b"a\r\nb\r", b'"\r\n"', b"\r\r\n"]
+        for row, text, place in [(r, t, p) for r in [*range(1, 8), 20, 21] for t in texts for p in range(len(t) + 2)]:
+            for which in (Text.FIRST, Text.SECOND):
+                at = rc.explain_join(RefusedJoin(Refusal(row), place, which), text, text).at
+                self.assertEqual((at.text, at.found == b""), (which, place >= len(text)), (row, text, place))
+                self.assertTrue(at.caret <= len(at.shown) and b"\n" not in at.shown, (row, text, place))
+                self.assertNotIn(b"\r", at.shown[: at.caret], (row, text, place))
 
     def test_refused_patterns(self):
         for pattern, _, _ in NO_PATTERNS:
@@ -578,11 +778,24 @@ class Host(unittest.TestCase):
         else:
             self.refused(Refusal(int(cells[0])), int(cells[3]), rc.chain_texts, *question)
 
+    def join_of_the_guide(self, cells, lines):
+        """A row's join of two texts, into as many bytes as it says: the lines that are written, or its refusal."""
+        texts = ["".join(f"{line}\n" for line in re.findall("`([^`]*)`", text)) for text in cells[2].split(" and ")]
+        room = re.search(r" into (\d+) bytes", cells[2])
+        if lines:
+            self.assertEqual(rc.join(*texts).decode().splitlines(), lines, cells)
+        else:
+            which = None if room else Text.SECOND
+            more = {"room": int(room[1])} if room else {}
+            self.not_joined(Refusal(int(cells[0])), int(cells[3]), which, *texts, **more)
+
     def test_examples_of_the_guide(self):
         checked = 0
         for cells, (_, _, example, prints) in guide_rows(4):
             if "chain `" in cells[2]:
                 self.chain_of_the_guide(cells, example, prints)
+            elif cells[2].startswith("join `"):
+                self.join_of_the_guide(cells, prints)
             elif prints:
                 ran = rc.run(FACTS, example[0])
                 self.assertEqual((ran.ending, ran.output.decode().splitlines()), (Ending.DONE, prints), cells)
@@ -593,7 +806,7 @@ class Host(unittest.TestCase):
             else:
                 continue
             checked += 1
-        self.assertEqual(checked, 71)
+        self.assertEqual(checked, 82)
         self.refused(Refusal.TOO_MANY_RELATIONS, 0, rc.check, "".join(f"R{i}\n" for i in range(16)), "New();")
         self.refused(Refusal.TOO_MANY_ELEMENTS, 5, rc.check, "".join(f"Held {i}\n" for i in range(64)), 'Held("New");')
 

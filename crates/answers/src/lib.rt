@@ -27,6 +27,8 @@ pub fn number(q: Refusal) -> usize
         Refusal::NoChain => 17,
         Refusal::Pattern(_) => 18,
         Refusal::Number(_) => 19,
+        Refusal::FirstArity(_) => 20,
+        Refusal::ResultTooLong(_) => 21,
     }
 }
 
@@ -54,5 +56,7 @@ pub fn place(q: Refusal) -> usize
         Refusal::NoChain => 0,
         Refusal::Pattern(p) => p,
         Refusal::Number(p) => p,
+        Refusal::FirstArity(p) => p,
+        Refusal::ResultTooLong(n) => n,
     }
 }

@@ -11,7 +11,8 @@ use lib.Seq.{drop-cons}
 use borrow.Author.Tests.{le-ltb, lt-ltb}
 use Rattle.definition.specs.Text.{Text, starts, span}
 use Rattle.definition.specs.Limits.{FACT-BYTES}
-use Rattle.definition.specs.Facts.{cut, bytes-read, legal-bytes, read-facts}
+use Rattle.definition.specs.Facts.{cut, bytes-read, legal-bytes}
+use Rattle.definition.specs.Join.{read-second}
 use Rattle.definition.specs.declared.Refusal.the-variants.{FactsTooLong, FactByte}
 use Rattle.definition.proofs.TextLaws.{no-end}
 use Rattle.breaks.specs.declared.FactsBytes.the-variants.{Right, Wrong}
@@ -47,24 +48,24 @@ module _ (xs : Text) (a e : ℕ) (within : a ≤ length xs) (r : e ≡ a + span 
 
 module _ (facts : Text) where
   pub bytes-long : FACT-BYTES < length facts → BytesRead facts (Wrong FactsTooLong)
-  unfolding read-facts
-  bytes-long h limits = rw (lt-ltb FACT-BYTES (length facts) h)
+  unfolding read-second
+  bytes-long h limits s = rw (lt-ltb FACT-BYTES (length facts) h)
 
   module _ (short : length facts ≤ FACT-BYTES) (n : ℕ) (e : n ≡ legal-bytes facts) where
     pub bytes-legal : n ≡ length facts → BytesRead facts Right
-    unfolding read-facts
-    bytes-legal h = (short, λ limits. rw (le-ltb FACT-BYTES (length facts) short, le-ltb (legal-bytes facts) (length facts) (omega arith)))
+    unfolding read-second
+    bytes-legal h = (short, λ limits s. rw (le-ltb FACT-BYTES (length facts) short, le-ltb (legal-bytes facts) (length facts) (omega arith)))
 
     pub bytes-unread : bytes-read (cut facts) ≤ n → BytesRead facts Right
-    unfolding read-facts
+    unfolding read-second
     bytes-unread h =
-        (short, λ limits. rw (le-ltb FACT-BYTES (length facts) short, le-ltb (legal-bytes facts) (bytes-read (cut facts)) (omega arith)) (simp no-and))
+        (short, λ limits s. rw (le-ltb FACT-BYTES (length facts) short, le-ltb (legal-bytes facts) (bytes-read (cut facts)) (omega arith)) (simp no-and))
       where
         no-and : (b : Bool) → b && false ≡ false
         no-and true = refl
         no-and false = refl
 
     pub bytes-wrong : n < length facts → n < bytes-read (cut facts) → BytesRead facts (Wrong (FactByte n))
-    unfolding read-facts
-    bytes-wrong h k limits =
+    unfolding read-second
+    bytes-wrong h k limits s =
         rw (le-ltb FACT-BYTES (length facts) short, lt-ltb (legal-bytes facts) (length facts) (omega arith), lt-ltb (legal-bytes facts) (bytes-read (cut facts)) (omega arith), e)

@@ -7,12 +7,10 @@ use native.Mathlib.Omega.{arith}
 use lib.ListN.{length, getD, take, drop, length-append, length-drop}
 use lib.Seq.{take-at, length-take-le}
 use Rattle.definition.specs.Text.{Text}
-use Rattle.definition.specs.Limits.{document-01}
 use Rattle.definition.specs.Facts.{Element, Fact}
 use Rattle.definition.specs.Tables.{Tuple}
 use Rattle.definition.specs.Accept.{Accepted, elements}
 use Rattle.definition.proofs.InLaws.{In, here, in-right}
-use Rattle.definition.proofs.AcceptLaws.{universe}
 use Rattle.definition.proofs.LoadLaws.{values}
 use Rattle.tuples.specs.Places.{number-at}
 use Rattle.tuples.proofs.Tables.{number-below}
@@ -22,20 +20,20 @@ use Rattle.parts.proofs.HeldLaws.{length-texts}
 use Rattle.facts.specs.declared.FactLine.{FactLine}
 use Rattle.facts.specs.Lines.{AllWithin}
 use Rattle.facts.specs.Words.{fact-at, line-word}
-use Rattle.facts.specs.Reading.{facts-from}
+use Rattle.facts.specs.Reading.{all-facts}
 use Rattle.numbers.specs.Sets.{entered, entered-all}
 use Rattle.numbers.proofs.SetLaws.{entered-length}
 use Rattle.numbers.proofs.KeptLaws.{all-snoc}
-use Rattle.loading.specs.Given.{tuple-at, Known}
+use Rattle.loading.specs.Given.{tuple-at, Known, Stated}
 use Rattle.loading.proofs.OneFact.{all-again, few, arity, its-numbers, relation-place}
 use Rattle.counting.specs.FactNumbers.{fact-numbers, fact-number, number-set}
 use Rattle.counting.proofs.FactCounts.{numbers-are, few-tuples}
 
--- a set with the numbers of all facts but the last ones, gs
-pub record Entered (w : Accepted) (gs : List Fact) (set : List ℕ) : Type 0 where
+-- a set with the numbers of some facts before, and of all facts of a text, fs, but the last ones, gs
+pub record Entered (w : Accepted) (before fs gs : List Fact) (set : List ℕ) : Type 0 where
   pub so-far : List Fact
-  pub all : w .facts ≡ so-far ++ gs
-  pub is : set ≡ number-set w so-far
+  pub all : fs ≡ so-far ++ gs
+  pub is : set ≡ number-set w (before ++ so-far)
 
 -- the words after one more number
 module _ (words words′ : List ℕ) (n v r : ℕ) (h : n < length words) (c : r ≡ length (entered v (take n words))) (e : words′ ≡ entered v (take n words) ++ drop r words) where
@@ -52,28 +50,28 @@ numbered-texts : {us : List Text} {es : List Element} {s : Tuple} → Numbered u
 numbered-texts none = refl
 numbered-texts (one h e n) = ap₂ _∷_ e (numbered-texts n)
 
-module _ (w : Accepted) where
-  pub entered-in : {g : Fact} {gs : List Fact} {set : List ℕ} → Entered w (g ∷ gs) set → In g (w .facts)
+module _ (w : Accepted) (before fs : List Fact) where
+  pub entered-none : {set : List ℕ} → set ≡ number-set w before → Entered w before fs fs set
+  entered-none e = record { so-far = []; all = refl; is = e ∙ ap (number-set w) (sym (append-nil before)) }
+
+  pub entered-in : {g : Fact} {gs : List Fact} {set : List ℕ} → Entered w before fs (g ∷ gs) set → In g fs
   entered-in {g} h = subst (In g) (sym (h .all)) (in-right (h .so-far) (here refl))
 
-  pub entered-one : {g : Fact} {gs : List Fact} {set : List ℕ} → Entered w (g ∷ gs) set → Entered w gs (entered (fact-number w g) set)
+  pub entered-one : {g : Fact} {gs : List Fact} {set : List ℕ} → Entered w before fs (g ∷ gs) set → Entered w before fs gs (entered (fact-number w g) set)
   entered-one {g} {gs} h =
       record {
         so-far = h .so-far ++ (g ∷ []);
         all = h .all ∙ sym (append-assoc (h .so-far) (g ∷ []) gs);
         is =
-            ap (entered (fact-number w g)) (h .is) ∙ sym (all-snoc (map (fact-number w) (h .so-far)) (fact-number w g) [])
-            ∙ ap (λ (vs : List ℕ). entered-all vs []) (sym (map-append (fact-number w) (h .so-far) (g ∷ [])));
+            ap (entered (fact-number w g)) (h .is) ∙ sym (all-snoc (map (fact-number w) (before ++ h .so-far)) (fact-number w g) [])
+            ∙ ap (λ (vs : List ℕ). entered-all vs []) (sym (map-append (fact-number w) (before ++ h .so-far) (g ∷ [])))
+            ∙ ap (number-set w) (append-assoc before (h .so-far) (g ∷ []));
       }
 
-  pub entered-last : {set : List ℕ} → Entered w [] set → set ≡ number-set w (w .facts)
-  entered-last h = h .is ∙ ap (number-set w) (sym (append-nil (h .so-far)) ∙ sym (h .all))
+  pub entered-last : {set : List ℕ} → Entered w before fs [] set → set ≡ number-set w (before ++ fs)
+  entered-last h = h .is ∙ ap (λ (gs : List Fact). number-set w (before ++ gs)) (sym (append-nil (h .so-far)) ∙ sym (h .all))
 
-module _ (facts query : Text) (relations places : List ℕ) (w : Accepted) (g : Known facts query relations places w) where
-  pub entered-none : Entered w (facts-from facts 0) []
-  unfolding entered-all
-  entered-none = record { so-far = []; all = all-again facts query relations places w g; is = refl }
-
+module _ (facts query : Text) (relations places : List ℕ) (w : Accepted) (g : Stated facts query relations places w) where
   size : length places ≡ elements w
   size = sym (length-texts facts query places) ∙ ap length (g .universe)
 
@@ -82,7 +80,7 @@ module _ (facts query : Text) (relations places : List ℕ) (w : Accepted) (g : 
     unfolding fact-numbers
     numbers-at =
         let s = its-numbers facts query relations places w g a n f within said in
-        sym (numbers-are (w .universe) (universe document-01 facts query w (g .accepted) .ascending) (tuple-at facts query places a f) (numbered-below s) (fact-at facts a f .elements) (numbered-texts s))
+        sym (numbers-are (w .universe) (g .sound .ascending) (tuple-at facts query places a f) (numbered-below s) (fact-at facts a f .elements) (numbered-texts s))
 
     small : number-at (elements w) 0 (tuple-at facts query places a f) < 16777216
     small =
@@ -101,3 +99,10 @@ module _ (facts query : Text) (relations places : List ℕ) (w : Accepted) (g : 
         let e : i ≡ number-at (elements w) 0 (tuple-at facts query places a f) = s ∙ ap₂ (λ (v : ℕ) (x : Tuple). number-at v 0 x) (q ∙ size) r in
         ap₂ (λ (x y : ℕ). x * 16777216 + y) (p ∙ relation-place facts query relations places w g a n f within said)
         (ap (λ (x : ℕ). x % 16777216) e ∙ mod-eq-of-lt small ∙ ap (number-at (elements w) 0) numbers-at)
+
+-- the facts of accepted texts, entered into no numbers, are all that there are
+module _ (facts query : Text) (relations places : List ℕ) (w : Accepted) (g : Known facts query relations places w) where
+  pub all-entered : {set : List ℕ} → ((gs : List Fact) → [] ≡ number-set w gs → ((f : Fact) → In f (all-facts facts) → In f (w .facts)) → set ≡ number-set w (gs ++ all-facts facts))
+      → set ≡ number-set w (w .facts)
+  unfolding entered-all
+  all-entered h = let e = all-again facts query relations places w g in h [] refl (λ f i. subst (In f) (sym e) i) ∙ ap (number-set w) (sym e)

@@ -1,4 +1,4 @@
--- The numbers of the facts of accepted texts: the different ones of each relation are as many as its table has tuples.
+-- The numbers of facts: the different ones of each relation are as many as its table has tuples.
 use Prim.Native.Nat.{ℕ, zero, suc, _+_, _-_, _*_, _^_, _≤_, _<_}
 use mathlib.Core.Path.{_≡_, refl, sym, ap, ap₂, subst, _∙_}
 use mathlib.Core.Bool.{Bool, true, false}
@@ -6,15 +6,14 @@ use mathlib.Core.List.{List, [], _∷_, _++_, map}
 use native.Mathlib.Nat.{le-trans, le-of-suc-le-suc, zero-add, zero-lt-suc, pow-le-pow-left, pow-le-pow-right}
 use native.Mathlib.Decide.{decLt}
 use native.Mathlib.Omega.{arith}
-use lib.Dec.{T}
+use lib.Dec.{T, eqb}
 use lib.ListN.{length, getD, replicate, length-append, length-map, length-replicate}
 use lib.Seq.{ext-getD}
-use Rattle.definition.specs.Text.{Text, same, some-of, keep}
+use Rattle.definition.specs.Text.{Text, same, some-of, keep, below}
 use Rattle.definition.specs.Limits.{document-01}
-use Rattle.definition.specs.Answer.{ok}
 use Rattle.definition.specs.Facts.{Element, Fact, Relation, Ascending}
 use Rattle.definition.specs.Tables.{Tuple, bit, holds-from, holds, table, tuples, tuple-count}
-use Rattle.definition.specs.Accept.{Accepted, accept, elements}
+use Rattle.definition.specs.Accept.{Accepted, elements}
 use Rattle.definition.specs.Meaning.{Tables, numbers}
 use Rattle.definition.specs.Assignment.{same-values, element-text, fact-holds, loaded}
 use Rattle.definition.specs.Claim.{table-image}
@@ -27,11 +26,7 @@ use Rattle.definition.proofs.TableLaws.{Below}
 use Rattle.definition.proofs.RunLaws.{point-shaped}
 use Rattle.definition.proofs.RelationLaws.{place-of, no-relation}
 use Rattle.definition.proofs.UniverseLaws.{number-of}
-use Rattle.definition.proofs.UniverseSize.{universe-few}
-use Rattle.definition.proofs.AcceptLaws.{universe}
-use Rattle.definition.proofs.NamedLaws.{accepted-named}
-use Rattle.definition.proofs.ArityLaws.{small-arities}
-use Rattle.definition.proofs.RelationCount.{few-relations}
+use Rattle.definition.proofs.SoundLaws.{Sound}
 use Rattle.definition.proofs.LoadLaws.{all-below, values, same-values-eq, same-values-refl, fact-tuple}
 use Rattle.definition.proofs.CountLaws.{table-counts, counts-of, counts-loaded}
 use Rattle.tuples.specs.Places.{digits, number-at}
@@ -43,7 +38,7 @@ use Rattle.loading.proofs.Named.{alone, alone-at, alone-one}
 use Rattle.counting.specs.Tallies.{relation-of, tallied}
 use Rattle.counting.specs.FactNumbers.{fact-numbers, fact-number, number-set}
 use Rattle.counting.proofs.TallyLaws.{zeros, length-tallied}
-use Rattle.counting.proofs.SetCounts.{tallied-count}
+use Rattle.counting.proofs.SetCounts.{its-numbers, tallied-count}
 
 -- ---- elements by number
 
@@ -89,9 +84,9 @@ module _ (u : ℕ) (f : Relation → Tuple → Bool) where
   count-past (r ∷ rs) m zero h = absurd (omega arith)
   count-past (r ∷ rs) m (suc k) h = count-past rs m k (le-of-suc-le-suc h)
 
--- ---- the facts of accepted texts
+-- ---- facts that fit their relations
 
-module _ (facts query : Text) (w : Accepted) (accepted : accept document-01 facts query ≡ ok w) where
+module _ (w : Accepted) (sound : Sound document-01 w) where
   abbrev u : ℕ
   u = elements w
 
@@ -102,32 +97,27 @@ module _ (facts query : Text) (w : Accepted) (accepted : accept document-01 fact
   abbrev relation-at : ℕ → Relation
   relation-at k = getD (w .relations) k no-relation
 
-  ascending : Ascending (w .universe)
-  ascending = universe document-01 facts query w accepted .ascending
-
-  few : (k : ℕ) → u ^ relation-at k .arity ≤ 16777216
-  few k = few-tuples u (relation-at k .arity) (universe-few document-01 facts query w accepted) (le-trans (small-arities document-01 facts query w accepted .each k) (omega arith))
+  pub few : (k : ℕ) → u ^ relation-at k .arity ≤ 16777216
+  few k = few-tuples u (relation-at k .arity) (sound .few-elements) (le-trans (sound .small .each k) (omega arith))
 
   module _ (g : Fact) (i : In g (w .facts)) where
     -- its elements' numbers have its values as their texts
     texts : Below u (fact-numbers w g) × (map (element-text w) (fact-numbers w g) ≡ values (g .elements))
     unfolding fact-numbers
     texts =
-        let (t, below, is) = fact-tuple document-01 facts query w accepted i in
-        let e = numbers-are (w .universe) ascending t (all-below below) (g .elements) is in
+        let (t, below, is) = fact-tuple w sound i in
+        let e = numbers-are (w .universe) (sound .ascending) t (all-below below) (g .elements) is in
         subst (λ (s : Tuple). Below u s × (map (element-text w) s ≡ values (g .elements))) (sym e) (all-below below, is)
 
     -- its relation
     its : Alone (g .name) (length (g .elements)) (w .relations) (place-of (g .name) (w .relations))
-    its =
-        let named = accepted-named document-01 facts query w accepted in
-        alone (g .name) (length (g .elements)) (w .relations) (named .distinct) (every-in (named .fitted) i)
+    its = alone (g .name) (length (g .elements)) (w .relations) (sound .distinct) (every-in (sound .fitted) i)
 
     abbrev k : ℕ
     k = place-of (g .name) (w .relations)
 
     inside : k < 16
-    inside = omega (arith, alone-at its .0, few-relations document-01 facts query w accepted)
+    inside = omega (arith, alone-at its .0, sound .few-relations)
 
     arity : length (fact-numbers w g) ≡ relation-at k .arity
     unfolding fact-numbers
@@ -137,8 +127,8 @@ module _ (facts query : Text) (w : Accepted) (accepted : accept document-01 fact
     tuple-is : digits u (relation-at k .arity) (number-at u 0 (fact-numbers w g)) ≡ fact-numbers w g
     tuple-is = ap (λ (n : ℕ). digits u n (number-at u 0 (fact-numbers w g))) (sym arity) ∙ digits-number u (fact-numbers w g) (texts .0)
 
-    below : number-at u 0 (fact-numbers w g) < u ^ relation-at k .arity
-    below = subst (λ (n : ℕ). number-at u 0 (fact-numbers w g) < u ^ n) arity (number-below u (fact-numbers w g) (texts .0))
+    small : number-at u 0 (fact-numbers w g) < u ^ relation-at k .arity
+    small = subst (λ (n : ℕ). number-at u 0 (fact-numbers w g) < u ^ n) arity (number-below u (fact-numbers w g) (texts .0))
 
     stated : given (relation-at k) (fact-numbers w g) ≡ true
     unfolding fact-holds
@@ -149,7 +139,7 @@ module _ (facts query : Text) (w : Accepted) (accepted : accept document-01 fact
 
     relation : relation-of (fact-number w g) ≡ k
     unfolding fact-number
-    relation = relation-is k (number-at u 0 (fact-numbers w g)) inside (omega (arith, below, few k))
+    relation = relation-is k (number-at u 0 (fact-numbers w g)) inside (omega (arith, small, few k))
 
   abbrev vs : List ℕ
   vs = map (fact-number w) (w .facts)
@@ -163,7 +153,7 @@ module _ (facts query : Text) (w : Accepted) (accepted : accept document-01 fact
   told k x h e =
       let (g, i, q) = map-in (fact-number w) (w .facts) h in
       let p : place-of (g .name) (w .relations) ≡ k = sym (relation g i) ∙ ap relation-of (sym q) ∙ e in
-      subst (λ (j : ℕ). Told j x) p (number-at u 0 (fact-numbers w g), q, below g i, ap (given (relation-at (place-of (g .name) (w .relations)))) (tuple-is g i) ∙ stated g i)
+      subst (λ (j : ℕ). Told j x) p (number-at u 0 (fact-numbers w g), q, small g i, ap (given (relation-at (place-of (g .name) (w .relations)))) (tuple-is g i) ∙ stated g i)
 
   -- and each such tuple has its number
   numbered : (k : ℕ) → k < length (w .relations) → (i : ℕ) → i < u ^ relation-at k .arity → given (relation-at k) (digits u (relation-at k .arity) i) ≡ true
@@ -175,8 +165,12 @@ module _ (facts query : Text) (w : Accepted) (accepted : accept document-01 fact
       let n = and-left (same (relation-at k .name) (g .name)) (same-values (map (element-text w) t) (g .elements)) s in
       let is = same-values-eq (map (element-text w) t) (g .elements) (and-right (same (relation-at k .name) (g .name)) (same-values (map (element-text w) t) (g .elements)) s) in
       let p : place-of (g .name) (w .relations) ≡ k = alone-one (its g j) k h (is-true _ n) in
-      let q : number-at u 0 (fact-numbers w g) ≡ i = ap (number-at u 0) (numbers-are (w .universe) ascending t (digits-in u (relation-at k .arity) i l) (g .elements) is) ∙ number-digits u (relation-at k .arity) i l in
-      (subst (λ (x : ℕ). In x vs) (ap₂ (λ (a b : ℕ). a * 16777216 + b) p q) (in-map (fact-number w) j), relation-is k i (omega (arith, h, few-relations document-01 facts query w accepted)) (omega (arith, l, few k)))
+      let q : number-at u 0 (fact-numbers w g) ≡ i = ap (number-at u 0) (numbers-are (w .universe) (sound .ascending) t (digits-in u (relation-at k .arity) i l) (g .elements) is) ∙ number-digits u (relation-at k .arity) i l in
+      (subst (λ (x : ℕ). In x vs) (ap₂ (λ (a b : ℕ). a * 16777216 + b) p q) (in-map (fact-number w) j), relation-is k i (omega (arith, h, sound .few-relations)) (omega (arith, l, few k)))
+
+  -- its numbers in the set of all are those of the tuples that its facts have
+  pub relation-set : (k : ℕ) → k < length (w .relations) → keep (λ x. eqb (relation-of x) k) (number-set w (w .facts)) ≡ map (λ i. k * 16777216 + i) (keep (λ i. given (relation-at k) (digits u (relation-at k .arity) i)) (below (u ^ relation-at k .arity)))
+  relation-set k h = its-numbers u (relation-at k .arity) k (given (relation-at k)) vs (told k) (numbered k h)
 
   -- a relation that is not there has none
   none-past : (k : ℕ) → length (w .relations) ≤ k → (x : ℕ) → In x vs → relation-of x ≡ k → ⊥
@@ -210,4 +204,4 @@ module _ (facts query : Text) (w : Accepted) (accepted : accept document-01 fact
       lengths : length (counts-of document-01 w (loaded w)) ≡ 16
       lengths =
           length-append (table-counts u (w .relations) (loaded w)) (replicate (16 - length (w .relations)) 0)
-          ∙ omega (arith, length-counts (point-shaped w 0), length-replicate {A = ℕ} (16 - length (w .relations)) 0, few-relations document-01 facts query w accepted)
+          ∙ omega (arith, length-counts (point-shaped w 0), length-replicate {A = ℕ} (16 - length (w .relations)) 0, sound .few-relations)

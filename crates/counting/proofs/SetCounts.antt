@@ -47,7 +47,7 @@ module _ (u n k : ℕ) (f : Tuple → Bool) (vs : List ℕ)
   abbrev passes : ℕ → Bool
   passes i = f (digits u n i)
 
-  its-numbers : keep mine (entered-all vs []) ≡ shifted (k * 16777216) (keep passes (below (u ^ n)))
+  pub its-numbers : keep mine (entered-all vs []) ≡ shifted (k * 16777216) (keep passes (below (u ^ n)))
   its-numbers =
       same-members (keep mine (entered-all vs [])) (shifted (k * 16777216) (keep passes (below (u ^ n))))
       (part-ascends mine (entered-all vs []) (all-ascends vs [] none)) (shift-ascends (k * 16777216) (keep passes (below (u ^ n))) (kept-ascends passes (u ^ n) 0)) there-too back

@@ -11,24 +11,24 @@ use Rattle.definition.specs.Limits.{Limits, ARITY}
 use Rattle.definition.specs.Token.{Token}
 use Rattle.definition.specs.Answer.{ok, refused, _>>=_, refuse-if}
 use Rattle.definition.specs.Facts.{Relation, Element, Fact, Facts, Line, Word, none, one, wrong, is-inside, word, on-word, elements, fact, add-relation, on-arities, use-relation, arities, last-place, read-facts}
-use Rattle.definition.specs.Names.{Role, Use, in-program, relation, Kinds, use-names, fact-kinds}
+use Rattle.definition.specs.Names.{Role, Use, in-program, Kinds, use-names, fact-kinds}
 use Rattle.definition.specs.Accept.{Accepted, accept}
 use Rattle.definition.proofs.RelationLaws.{no-relation}
 use Rattle.definition.proofs.AcceptLaws.{never, ok-injective, bind-ok, then-ok, fact-relation, facts-hold, parts}
-use Rattle.definition.proofs.NameLaws.{new-relation, Used, kept, added, used, names-hold, Numbered, relation-place}
+use Rattle.definition.proofs.NameLaws.{new-relation, Used, kept, added, used, names-hold}
 use Rattle.definition.proofs.ScopeLaws.{first-small}
 
 -- no relation has more than 3 terms
 pub record Small (rs : List Relation) : Type 0 where
   pub each : (i : ℕ) → getD rs i no-relation .arity ≤ ARITY
 
-small-none : Small []
+pub small-none : Small []
 small-none = record { each = λ i. omega arith }
 
-small-rest : {q : Relation} {rs : List Relation} → Small (q ∷ rs) → Small rs
+pub small-rest : {q : Relation} {rs : List Relation} → Small (q ∷ rs) → Small rs
 small-rest h = record { each = λ i. h .each (suc i) }
 
-small-one : (q : Relation) (rs : List Relation) → q .arity ≤ ARITY → Small rs → Small (q ∷ rs)
+pub small-one : (q : Relation) (rs : List Relation) → q .arity ≤ ARITY → Small rs → Small (q ∷ rs)
 small-one q rs h s = record { each = elim [ zero ↦ h | suc i ↦ s .each i ] }
 
 small-more : (rs : List Relation) (q : Relation) → q .arity ≤ ARITY → Small rs → Small (rs ++ (q ∷ []))
@@ -58,14 +58,14 @@ elements-few (suc k) i xs es e = go (word (i + b) (drop b xs)) e (elements-few k
         let h : length fs ≤ k = ih (i + b + n) (drop (b + n) xs) fs p in
         subst (λ (l : List Element). length l ≤ suc k) (ok-injective q) (omega arith)
 
-fact-few : (l : Line) (f : Fact) → fact l ≡ ok f → length (f .elements) ≤ ARITY
+pub fact-few : (l : Line) (f : Fact) → fact l ≡ ok f → length (f .elements) ≤ ARITY
 unfolding fact
 fact-few l f e =
     let n = span is-inside (l .bytes) in
     let (es, p, q) = bind-ok (elements ARITY (l .at + n) (drop n (l .bytes))) _ f (then-ok (refuse-if (not (is-name (take n (l .bytes)))) 3 (l .at)) _ f e) in
     subst (λ (g : Fact). length (g .elements) ≤ ARITY) (ok-injective q) (elements-few ARITY (l .at + n) (drop n (l .bytes)) es p)
 
-relation-small : (limits : Limits) (q : Relation) (p : ℕ) (rs qs : List Relation) → use-relation limits q p rs ≡ ok qs → q .arity ≤ ARITY → Small rs → Small qs
+pub relation-small : (limits : Limits) (q : Relation) (p : ℕ) (rs qs : List Relation) → use-relation limits q p rs ≡ ok qs → q .arity ≤ ARITY → Small rs → Small qs
 unfolding use-relation add-relation
 relation-small limits q p rs qs e h s = go (arities (q .name) rs) e
   where

@@ -80,7 +80,7 @@ fewer ys (distinct-one {x} {xs} m d) h =
         is-member s = subst (λ (y : Text). member y xs ≡ true) (sym (same-eq x z s)) (is-true (member z xs) n)
 
 -- texts in byte order are distinct
-behind : (u : Text) (us : List Text) → Ascending (u ∷ us) → (x : Text) → T (member x us) → T (earlier u x)
+pub behind : (u : Text) (us : List Text) → Ascending (u ∷ us) → (x : Text) → T (member x us) → T (earlier u x)
 unfolding member some-of
 behind u [] a x m = absurd m
 behind u (v ∷ us) a x m = go (or-cases (same x v) (member x us) m) (λ n. behind v us (a .1) x n)

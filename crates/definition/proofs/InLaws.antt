@@ -11,7 +11,7 @@ use lib.ListN.{length}
 use Rattle.definition.specs.Text.{some-of, keep, gather, from}
 use Rattle.definition.specs.Tables.{Tuple, tuples}
 use Rattle.definition.proofs.BoolLaws.{or-cases, or-left, or-right}
-use Rattle.definition.proofs.ListLaws.{Every, every-none, every-one}
+use Rattle.definition.proofs.ListLaws.{Each, each-one, Every, every-none, every-one}
 
 pub data In {A : Type 0} (x : A) : List A → Type 0 where
   here : {y : A} {xs : List A} → x ≡ y → In x (y ∷ xs)
@@ -106,6 +106,14 @@ module _ {A B : Type 0} where
       go : In y (f x) ⊎ In y (gather f xs) → (In y (gather f xs) → (z : A) × In z xs × In y (f z)) → (z : A) × In z (x ∷ xs) × In y (f z)
       go (inl j) ih = (x, here refl, j)
       go (inr j) ih = let k = ih j in (k .0, there (k .1), k .2)
+
+  pub each-left : {R : A → B → Type 0} {x : A} {xs : List A} {ys : List B} → Each R xs ys → In x xs → (y : B) × In y ys × R x y
+  each-left {R} (each-one {b} h hs) (here e) = (b, here refl, subst (λ z. R z b) (sym e) h)
+  each-left (each-one h hs) (there i) = let k = each-left hs i in (k .0, there (k .1), k .2)
+
+  pub each-right : {R : A → B → Type 0} {y : B} {xs : List A} {ys : List B} → Each R xs ys → In y ys → (x : A) × In x xs × R x y
+  each-right {R} (each-one {a} h hs) (here e) = (a, here refl, subst (λ z. R a z) (sym e) h)
+  each-right (each-one h hs) (there i) = let k = each-right hs i in (k .0, there (k .1), k .2)
 
 -- all numbers below u, and all tuples of them
 in-from : (n a b : ℕ) → a ≤ b → b < a + n → In b (from n a)

@@ -72,6 +72,10 @@ module _ {A : Type 0} {P : A → Type 0} where
   every-both every-none k = k
   every-both (every-one h hs) k = every-one h (every-both hs k)
 
+  pub every-left : (xs ys : List A) → Every P (xs ++ ys) → Every P xs
+  every-left [] ys h = every-none
+  every-left (x ∷ xs) ys (every-one h hs) = every-one h (every-left xs ys hs)
+
   pub every-right : (xs : List A) {ys : List A} → Every P (xs ++ ys) → Every P ys
   every-right [] h = h
   every-right (x ∷ xs) (every-one h hs) = every-right xs hs

@@ -12,7 +12,6 @@ use Rattle.definition.specs.Limits.{Limits}
 use Rattle.definition.specs.Answer.{ok}
 use Rattle.definition.specs.Facts.{Element, Fact, Relation, arities}
 use Rattle.definition.specs.Tables.{Tuple, holds, table, tuples}
-use Rattle.definition.specs.Names.{left-strings}
 use Rattle.definition.specs.Accept.{Accepted, accept, elements}
 use Rattle.definition.specs.Meaning.{Tables, table-of}
 use Rattle.definition.specs.Assignment.{same-values, element-text, fact-holds, loaded}
@@ -22,8 +21,8 @@ use Rattle.definition.proofs.InLaws.{In, here, in-keep, keep-in, in-som
 use Rattle.definition.proofs.MeaningLaws.{same-eq, same-refl, same-equal}
 use Rattle.definition.proofs.TableLaws.{Below, holds-table}
 use Rattle.definition.proofs.RunLaws.{Shaped, none, one}
-use Rattle.definition.proofs.AcceptLaws.{has, in-facts, universe}
-use Rattle.definition.proofs.NamedLaws.{accepted-named}
+use Rattle.definition.proofs.AcceptLaws.{has, in-facts}
+use Rattle.definition.proofs.SoundLaws.{Sound, accepted-sound}
 
 -- Tuples of n elements of a universe of u.
 pub record Fits (u n : ℕ) (t : Tuple) : Type 0 where
@@ -125,6 +124,10 @@ fact-members w h {g} i = go (g .elements) (λ x t. h x (in-some (λ f. has x (f 
         every-one (k (e .value) (or-left (same (e .value) (e .value)) (has (e .value) es) (same-refl (e .value))))
         (go es (λ x t. k x (or-right (same x (e .value)) (has x es) t)))
 
+-- a fact's elements, by their numbers
+pub fact-tuple : {limits : Limits} (w : Accepted) → Sound limits w → {g : Fact} → In g (w .facts) → (t : Tuple) × Every (λ a. a < elements w) t × (map (element-text w) t ≡ values (g .elements))
+fact-tuple w sound i = numbers-at (w .universe) (fact-members w (sound .inside) i)
+
 module _ (w : Accepted) where
   -- some fact of a relation has the tuple; the relation's table as it is loaded
   abbrev given : Relation → Tuple → Bool
@@ -182,21 +185,16 @@ module _ (limits : Limits) (facts query : Text) (w : Accepted) (accepted : accep
   unfolding loaded
   loaded-says r vs i = stated w r vs (w .relations) i
 
-  -- a fact's elements, by their numbers
-  pub fact-tuple : {g : Fact} → In g (w .facts) → (t : Tuple) × Every (λ a. a < elements w) t × (map (element-text w) t ≡ values (g .elements))
-  fact-tuple i =
-      numbers-at (w .universe)
-      (fact-members w (λ x t. subst T (sym (universe limits facts query w accepted .members x)) (or-right (has x (left-strings (w .program))) (in-facts x (w .facts)) t)) i)
-
   pub says-loaded : (r : Text) (vs : List Text) → T (has-fact r vs (w .facts)) → In vs (tuples-of w (loaded w) r)
   unfolding loaded has-fact
   says-loaded r vs s =
       let (g, i, h) = some-in (says r vs) (w .facts) s in
       let name : g .name ≡ r = sym (same-eq r (g .name) (and-left (same r (g .name)) (same-values vs (g .elements)) h)) in
       let is : vs ≡ values (g .elements) = same-values-eq vs (g .elements) (and-right (same r (g .name)) (same-values vs (g .elements)) h) in
-      let (t, below, texts) = fact-tuple i in
+      let sound = accepted-sound limits facts query w accepted in
+      let (t, below, texts) = fact-tuple w sound i in
       let size : length (g .elements) ≡ length t = sym (length-map (g .elements) (λ e. e .value)) ∙ ap length (sym texts) ∙ length-map t (element-text w) in
-      let fits = every-in (accepted-named limits facts query w accepted .fitted) i ∙ ap (λ (m : ℕ). m ∷ []) size in
+      let fits = every-in (sound .fitted) i ∙ ap (λ (m : ℕ). m ∷ []) size in
       subst (λ (x : Text). In vs (tuples-of w (loaded w) x)) name (subst (λ (xs : List Text). In xs (tuples-of w (loaded w) (g .name))) (texts ∙ sym is) (loads w g i t below texts (w .relations) fits))
 
 -- a list that holds nothing

@@ -94,25 +94,32 @@ named-more q rs fs n new h =
       fitted = every-weaken (λ f a. arities-more (f .name) rs q (length (f .elements)) a) (h .fitted);
     }
 
-relation-used : (limits : Limits) (q : Relation) (p : ℕ) (rs qs : List Relation) (fs : List Fact) → use-relation limits q p rs ≡ ok qs → T (is-name (q .name)) → Named rs fs
-    → Named qs fs × (arities (q .name) qs ≡ q .arity ∷ [])
-unfolding use-relation add-relation
-relation-used limits q p rs qs fs e n h = go (arities (q .name) rs) refl e
-  where
-    Used-in : List Relation → Type 0
-    Used-in l = Named l fs × (arities (q .name) l ≡ q .arity ∷ [])
+-- what a use of a relation does: it is there with this arity, or is added
+pub data RelationUse (q : Relation) (rs : List Relation) : List Relation → Type 0 where
+  known-use : arities (q .name) rs ≡ q .arity ∷ [] → RelationUse q rs rs
+  new-use : arities (q .name) rs ≡ [] → RelationUse q rs (rs ++ (q ∷ []))
 
-    go : (ns : List ℕ) → arities (q .name) rs ≡ ns → on-arities limits ns q p rs ≡ ok qs → Used-in qs
-    go [] d e =
-        let new = no-arity (q .name) rs d in
-        subst Used-in (ok-injective (then-ok (refuse-if (leb (limits .relations) (length rs)) 6 (q .at)) _ qs e)) (named-more q rs fs n new h, arities-new rs q new)
+pub relation-use : (limits : Limits) (q : Relation) (p : ℕ) (rs qs : List Relation) → use-relation limits q p rs ≡ ok qs → RelationUse q rs qs
+unfolding use-relation add-relation
+relation-use limits q p rs qs e = go (arities (q .name) rs) refl e
+  where
+    go : (ns : List ℕ) → arities (q .name) rs ≡ ns → on-arities limits ns q p rs ≡ ok qs → RelationUse q rs qs
+    go [] d e = subst (RelationUse q rs) (ok-injective (then-ok (refuse-if (leb (limits .relations) (length rs)) 6 (q .at)) _ qs e)) (new-use d)
     go (m ∷ ms) d e =
         let another = not (eqb m (q .arity)) in
         let same-arity = not-refused another 5 p (was-ok (refuse-if another 5 p) _ qs e) in
         let k : m ≡ q .arity = eqb→eq m (q .arity) (rw (not-false (eqb m (q .arity)) same-arity) tt) in
-        subst Used-in (ok-injective (then-ok (refuse-if another 5 p) _ qs e)) (h, arities-one (q .name) rs m ms d ∙ ap (λ (j : ℕ). j ∷ []) k)
+        subst (RelationUse q rs) (ok-injective (then-ok (refuse-if another 5 p) _ qs e)) (known-use (arities-one (q .name) rs m ms d ∙ ap (λ (j : ℕ). j ∷ []) k))
 
-fact-name : (l : Line) (f : Fact) → fact l ≡ ok f → T (is-name (f .name))
+pub relation-used : (limits : Limits) (q : Relation) (p : ℕ) (rs qs : List Relation) (fs : List Fact) → use-relation limits q p rs ≡ ok qs → T (is-name (q .name)) → Named rs fs
+    → Named qs fs × (arities (q .name) qs ≡ q .arity ∷ [])
+relation-used limits q p rs qs fs e n h = go (relation-use limits q p rs qs e)
+  where
+    go : {qs : List Relation} → RelationUse q rs qs → Named qs fs × (arities (q .name) qs ≡ q .arity ∷ [])
+    go (known-use d) = (h, d)
+    go (new-use d) = let m = no-arity (q .name) rs d in (named-more q rs fs n m h, arities-new rs q m)
+
+pub fact-name : (l : Line) (f : Fact) → fact l ≡ ok f → T (is-name (f .name))
 unfolding fact
 fact-name l f e =
     let n = span is-inside (l .bytes) in

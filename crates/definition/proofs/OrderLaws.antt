@@ -1,5 +1,6 @@
--- Lists in order, each element before all that follow: tuples ascend by their first difference, which `earlier` asks for.
-use mathlib.Core.Path.{_≡_, refl, sym, subst}
+-- Lists in order, each element before all that follow: tuples ascend by their first difference, which `earlier` asks for, and so do their
+-- texts.
+use mathlib.Core.Path.{_≡_, refl, sym, ap, subst}
 use mathlib.Core.Logic.{_↔_}
 use mathlib.Core.Bool.{Bool, true, false, cond}
 use mathlib.Core.List.{List, [], _∷_, _++_, map}
@@ -7,11 +8,13 @@ use Prim.Native.Nat.{ℕ, zero, suc, _<_}
 use native.Mathlib.Omega.{arith}
 use borrow.Author.Tests.{eq-eqb, ne-eqb, lt-ltb}
 use lib.Dec.{T, eqb, ltb, eqb→eq, ltb→lt}
-use lib.ListN.{length}
-use Rattle.definition.specs.Text.{earlier, keep, gather, from}
+use lib.ListN.{length, getD}
+use Rattle.definition.specs.Text.{Text, earlier, keep, gather, from}
+use Rattle.definition.specs.Facts.{Ascending}
 use Rattle.definition.specs.Tables.{Tuple, tuples}
-use Rattle.definition.proofs.ListLaws.{Every, every-none, every-one, every-both, every-keep}
+use Rattle.definition.proofs.ListLaws.{Every, every-none, every-one, every-both, every-weaken, every-keep, every-at}
 use Rattle.definition.proofs.InLaws.{In, here, there, all-in, every-in, map-in, gather-in}
+use Rattle.definition.proofs.UniverseLaws.{earlier-trans}
 
 pub data Sorted {A : Type 0} (R : A → A → Type 0) : List A → Type 0 where
   sorted-none : Sorted R []
@@ -35,6 +38,11 @@ module _ {A : Type 0} {R : A → A → Type 0} where
       go : (b : Bool) → Sorted R (keep p xs) → Sorted R (cond b (x ∷ keep p xs) (keep p xs))
       go true k = sorted-one (every-keep p h) k
       go false k = k
+
+  -- of two different elements that are related, and nothing else, no list of them is before itself
+  pub lex-other : ((x y : A) → R x y → x ≡ y → ⊥) → {xs ys : List A} → Lex R xs ys → xs ≡ ys → ⊥
+  lex-other f (at-once {x} {y} h) e = let k : x ≡ y = cc in f x y h k
+  lex-other f (after {xs = xs} {ys = ys} d h) e = let k : xs ≡ ys = cc in lex-other f h k
 
 module _ {A B : Type 0} {R : A → A → Type 0} {S : B → B → Type 0} where
   pub sorted-map : (f : A → B) {xs : List A} → ((x y : A) → In x xs → In y xs → R x y → S (f x) (f y)) → Sorted R xs → Sorted S (map f xs)
@@ -94,3 +102,26 @@ earlier-lex (x ∷ c) (y ∷ d) l t = go (eqb x y) refl t (earlier-lex c d (omeg
 
 pub earlier-smaller : (c d : List ℕ) → length d ≡ length c → T (earlier c d) ↔ Lex _<_ c d
 earlier-smaller c d l = (earlier-lex c d l, lex-earlier)
+
+-- texts in byte order, and tuples of their numbers
+abbrev pub Earlier : Text → Text → Type 0
+Earlier x y = T (earlier x y)
+
+pub ascending-sorted : (us : List Text) → Ascending us → Sorted Earlier us
+ascending-sorted [] a = sorted-none
+ascending-sorted (u ∷ us) a = sorted-one (behind u us a) (ascending-sorted us (a .1))
+  where
+    behind : (u : Text) (us : List Text) → Ascending (u ∷ us) → Every (Earlier u) us
+    behind u [] a = every-none
+    behind u (v ∷ us) a = every-one (a .0) (every-weaken (λ x h. earlier-trans u v x (a .0) h) (behind v us (a .1)))
+
+sorted-at : {us : List Text} → Sorted Earlier us → (a b : ℕ) → a < b → b < length us → Earlier (getD us a []) (getD us b [])
+sorted-at sorted-none a b h l = absurd (omega arith)
+sorted-at (sorted-one {x} {xs} h hs) zero zero k l = absurd (omega arith)
+sorted-at (sorted-one {x} {xs} h hs) zero (suc b) k l = let m : b < length xs = omega arith in every-at h [] b m
+sorted-at (sorted-one {x} {xs} h hs) (suc a) zero k l = absurd (omega arith)
+sorted-at (sorted-one {x} {xs} h hs) (suc a) (suc b) k l = sorted-at hs a b (omega arith) (omega arith)
+
+pub texts-sorted : {us : List Text} → Sorted Earlier us → {s t : Tuple} → Every (λ a. a < length us) t → Lex _<_ s t → Lex Earlier (map (λ a. getD us a []) s) (map (λ a. getD us a []) t)
+texts-sorted h (every-one {a = b} l ls) (at-once {x = a} k) = at-once (sorted-at h a b k l)
+texts-sorted {us} h (every-one l ls) (after e k) = after (ap (λ (a : ℕ). getD us a []) e) (texts-sorted h ls k)

@@ -2,7 +2,7 @@
 use mathlib.Core.Path.{_≡_, refl, sym, ap, ap₂, subst, _∙_}
 use mathlib.Core.Bool.{Bool, true, false, _||_, not, cond, or-false}
 use mathlib.Core.List.{List, [], _∷_, _++_, map}
-use Prim.Native.Nat.{ℕ, suc, _+_, _≤_, _<_}
+use Prim.Native.Nat.{ℕ, suc, _≤_, _<_}
 use native.Mathlib.Omega.{arith}
 use lib.Dec.{T}
 use lib.ListN.{length, getD, length-map}
@@ -23,7 +23,7 @@ use Rattle.definition.specs.Everything.{everything}
 use Rattle.definition.proofs.BoolLaws.{and-right, and-both, or-eq-false}
 use Rattle.definition.proofs.ListLaws.{Each, each-none, each-one, Every, every-none, every-one, every-head, every-tail, every-keep, every-weaken, every-map, keep-same, keep-all, gather-map}
 use Rattle.definition.proofs.MeaningLaws.{same-refl, same-sym, same-equal, same-itself}
-use Rattle.definition.proofs.AcceptLaws.{ok-injective, parts, all-accepted}
+use Rattle.definition.proofs.AcceptLaws.{ok-injective, no-facts, parts, all-accepted}
 use Rattle.definition.proofs.DistinctLaws.{Distinct, distinct-head, distinct-tail, absent}
 use Rattle.definition.proofs.UniverseSize.{universe-few}
 use Rattle.definition.proofs.RelationCount.{few-relations}
@@ -109,7 +109,7 @@ shown-writes w a v = go (is-quoted w (element-text w a) || needs-quotes (element
     go true e = WrittenLaws.in-quotes v
     go false e = WrittenLaws.bare v (or-eq-false (is-quoted w (element-text w a)) (needs-quotes (element-text w a)) e .1)
 
-abbrev tuple-row : Accepted → Text → Tuple → Row
+abbrev pub tuple-row : Accepted → Text → Tuple → Row
 tuple-row w r t = record { name = r; values = map (element-text w) t; words = map (shown w) t }
 
 own-page : (w : Accepted) (ts : Tables) (env : Environment) (s : Term) (r : Token) (xs : List Token) (us : List Tuple) → bare w env s ≡ r .text → answers w ts env (atom r (map name xs)) ≡ us
@@ -138,7 +138,7 @@ abbrev pub AllNamed : Text → List Fact → Type 0
 AllNamed r fs = Every (λ g. g .name ≡ r) fs
 
 module _ (w : Accepted) (r : Text) (n : ℕ) where
-  says-fits : arities r (w .relations) ≡ n ∷ [] → (us : List Tuple) → Every (Fits (elements w) n) us → {fs : List Fact} → Each Says (map (tuple-row w r) us) fs
+  pub says-fits : arities r (w .relations) ≡ n ∷ [] → (us : List Tuple) → Every (Fits (elements w) n) us → {fs : List Fact} → Each Says (map (tuple-row w r) us) fs
       → Every (FitsIn (w .relations) (w .universe)) fs
   says-fits e [] every-none each-none = every-none
   says-fits e (t ∷ us) (every-one h hs) (each-one {b = f} s ss) =
@@ -158,7 +158,7 @@ module _ (w : Accepted) (r : Text) (n : ℕ) where
   says-values [] each-none = refl
   says-values (t ∷ us) (each-one s ss) = ap₂ _∷_ (s .values) (says-values us ss)
 
-  all-rows : T (is-name r) → n ≤ ARITY → ((a : ℕ) → IsValue (element-text w a)) → {us : List Tuple} → Every (Fits (elements w) n) us → Every IsRow (map (tuple-row w r) us)
+  pub all-rows : T (is-name r) → n ≤ ARITY → ((a : ℕ) → IsValue (element-text w a)) → {us : List Tuple} → Every (Fits (elements w) n) us → Every IsRow (map (tuple-row w r) us)
   all-rows named small v hs =
       every-map (tuple-row w r)
       (every-weaken (λ t f. record { named = named; few = omega (arith, length-map t (element-text w), f .size); written = all-writes w v t }) hs)
@@ -276,6 +276,6 @@ module _ (limits : Limits) (facts query : Text) (w : Accepted) (accepted : accep
       none-held [] e = refl
       none-held (t ∷ us) e = let z : _≡_ {A = ℕ} 0 1 = cc in absurd (omega arith)
 
-pub nothing-read : (limits : Limits) → read-facts limits [] ≡ ok (record { relations = []; universe = []; facts = [] })
+pub nothing-read : (limits : Limits) → read-facts limits [] ≡ ok no-facts
 unfolding read-facts fact-lines cut lines read-lines without-return starts all-of legal-bytes
 nothing-read limits = refl

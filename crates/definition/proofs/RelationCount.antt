@@ -17,7 +17,7 @@ use Rattle.definition.proofs.AcceptLaws.{never, ok-injective, bind-ok, 
 use Rattle.definition.proofs.NameLaws.{new-relation, names-hold}
 
 module _ (limits : Limits) where
-  abbrev Few : List Relation → Type 0
+  abbrev pub Few : List Relation → Type 0
   Few rs = length rs ≤ limits .relations
 
   -- one more, where the limit is not met yet
@@ -28,7 +28,7 @@ module _ (limits : Limits) where
       let room : length rs < limits .relations = leb-false (limits .relations) (length rs) (not-refused full 6 (q .at) (was-ok (refuse-if full 6 (q .at)) _ qs e)) in
       subst Few (ok-injective (then-ok (refuse-if full 6 (q .at)) _ qs e)) (omega (arith, length-append rs (q ∷ [])))
 
-  relation-few : (q : Relation) (p : ℕ) (rs qs : List Relation) → use-relation limits q p rs ≡ ok qs → Few rs → Few qs
+  pub relation-few : (q : Relation) (p : ℕ) (rs qs : List Relation) → use-relation limits q p rs ≡ ok qs → Few rs → Few qs
   unfolding use-relation
   relation-few q p rs qs e h = go (arities (q .name) rs) e
     where

@@ -3,7 +3,7 @@ use mathlib.Core.Path.{_≡_, refl, sym, ap, subst, _∙_}
 use mathlib.Core.Logic.{_⊎_, inl, inr}
 use mathlib.Core.Bool.{Bool, true, false, cond}
 use mathlib.Core.List.{List, [], _∷_, _++_, append-assoc, append-nil}
-use Prim.Native.Nat.{ℕ, _+_, _≤_, _<_}
+use Prim.Native.Nat.{ℕ, _≤_, _<_}
 use native.Mathlib.Omega.{arith}
 use lib.Dec.{T}
 use lib.ListN.{length, length-append, length-map}
@@ -18,7 +18,7 @@ use Rattle.definition.proofs.ListLaws.{Every, every-none, every-one, ev
 use Rattle.definition.proofs.MeaningLaws.{same-eq, same-equal}
 use Rattle.definition.proofs.UniverseLaws.{member-insert, insert-ascending}
 use Rattle.definition.proofs.DistinctLaws.{Distinct, distinct-none, distinct-more, Within, fewer, ascending-distinct}
-use Rattle.definition.proofs.AcceptLaws.{fact-relation}
+use Rattle.definition.proofs.AcceptLaws.{no-facts, fact-relation}
 use Rattle.definition.proofs.NamedLaws.{names, names-more, has-arity, no-arity, HasArity}
 use Rattle.definition.proofs.WrittenLaws.{take-facts}
 
@@ -94,7 +94,7 @@ module _ (limits : Limits) (qs : List Relation) (vs : List Text) (few-relations 
       inserted x (inl s) = subst (λ (y : Text). T (member y vs)) (sym (same-eq x (e .value) s)) m
       inserted x (inr n) = h x n
 
-  taken-from : {fs : List Fact} → Every (FitsIn qs vs) fs → (s : Facts) → Inside s → (f : Facts) × (take-facts limits fs s ≡ ok f) × (s .facts ++ fs ≡ f .facts)
+  pub taken-from : {fs : List Fact} → Every (FitsIn qs vs) fs → (s : Facts) → Inside s → (f : Facts) × (take-facts limits fs s ≡ ok f) × (s .facts ++ fs ≡ f .facts)
   unfolding take-facts with-fact
   taken-from every-none s i = (s, refl, append-nil (s .facts))
   taken-from (every-one {a = f} {xs = fs} h hs) s i =
@@ -104,6 +104,6 @@ module _ (limits : Limits) (qs : List Relation) (vs : List Text) (few-relations 
       let k = taken-from hs t (record { relations = q .2; distinct = q .3; ascending = u .2; within = u .3 }) in
       (k .0, (rw (q .1, u .1) (k .1)), sym (append-assoc (s .facts) (f ∷ []) fs) ∙ k .2)
 
-  pub facts-taken : {fs : List Fact} → Every (FitsIn qs vs) fs → (f : Facts) × (take-facts limits fs (record { relations = []; universe = []; facts = [] }) ≡ ok f) × (fs ≡ f .facts)
+  pub facts-taken : {fs : List Fact} → Every (FitsIn qs vs) fs → (f : Facts) × (take-facts limits fs no-facts ≡ ok f) × (fs ≡ f .facts)
   unfolding member some-of
-  facts-taken hs = taken-from hs (record { relations = []; universe = []; facts = [] }) (record { relations = every-none; distinct = distinct-none; ascending = tt; within = λ x m. absurd m })
+  facts-taken hs = taken-from hs no-facts (record { relations = every-none; distinct = distinct-none; ascending = tt; within = λ x m. absurd m })

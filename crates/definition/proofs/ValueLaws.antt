@@ -279,7 +279,7 @@ has-value {x} (every-one {a = e} {xs = es} h hs) t = go (or-cases (same x (e .va
     go (inl s) ih = subst IsValue (sym (same-eq x (e .value) s)) (h .value)
     go (inr s) ih = ih s
 
-in-value : {x : Text} {fs : List Fact} → Every ValueFact fs → T (in-facts x fs) → IsValue x
+pub in-value : {x : Text} {fs : List Fact} → Every ValueFact fs → T (in-facts x fs) → IsValue x
 unfolding in-facts some-of
 in-value every-none t = absurd t
 in-value {x} (every-one {a = f} {xs = fs} h hs) t = go (or-cases (has x (f .elements)) (in-facts x fs) t) (in-value hs)
@@ -299,13 +299,16 @@ accepted-values limits facts query w e x m =
     go g h (inr s) = in-value h s
 
 -- the text of an element, of any number
-pub element-value : (limits : Limits) (facts query : Text) (w : Accepted) → accept limits facts query ≡ ok w → (a : ℕ) → IsValue (getD (w .universe) a [])
+pub value-numbered : (us : List Text) → ((x : Text) → T (member x us) → IsValue x) → (a : ℕ) → IsValue (getD us a [])
 unfolding all-of
-element-value limits facts query w e a = go (decLe (suc a) (length (w .universe)))
+value-numbered us v a = go (decLe (suc a) (length us))
   where
-    go : Dec (suc a ≤ length (w .universe)) → IsValue (getD (w .universe) a [])
-    go (yes h) = accepted-values limits facts query w e (getD (w .universe) a []) (member-at (w .universe) a h)
-    go (no h) = let l : length (w .universe) ≤ a = omega arith in subst IsValue (sym (List·getD-eq-default (w .universe) [] l)) (record { short = omega arith; unquoted = tt; bytes = tt })
+    go : Dec (suc a ≤ length us) → IsValue (getD us a [])
+    go (yes h) = v (getD us a []) (member-at us a h)
+    go (no h) = let l : length us ≤ a = omega arith in subst IsValue (sym (List·getD-eq-default us [] l)) (record { short = omega arith; unquoted = tt; bytes = tt })
+
+pub element-value : (limits : Limits) (facts query : Text) (w : Accepted) → accept limits facts query ≡ ok w → (a : ℕ) → IsValue (getD (w .universe) a [])
+element-value limits facts query w e = value-numbered (w .universe) (accepted-values limits facts query w e)
 
 -- An element of the facts that needs quotes is quoted by a fact.
 has-quoted : (x : Text) {es : List Element} → Every ValueElement es → T (has x es) → needs-quotes x ≡ true → T (some-of (λ e. same x (e .value) && e .quoted) es)
@@ -343,13 +346,16 @@ in-quoted x (every-one {a = f} {xs = fs} h hs) t n = go (or-cases (has x (f .ele
     go (inr s) ih = or-right here rest (ih s)
 
 -- so one of the facts is printed in quotes just where a fact quoted it
-pub quoted-by-facts : (limits : Limits) (facts query : Text) (w : Accepted) → accept limits facts query ≡ ok w → (x : Text) → T (in-facts x (w .facts)) → in-quotes w x ≡ is-quoted w x
+pub quotes-given : (w : Accepted) → Every ValueFact (w .facts) → (x : Text) → T (in-facts x (w .facts)) → in-quotes w x ≡ is-quoted w x
 unfolding in-quotes is-quoted
-quoted-by-facts limits facts query w e x m = go (needs-quotes x) refl
+quotes-given w vs x m = go (needs-quotes x) refl
   where
     go : (b : Bool) → needs-quotes x ≡ b → is-quoted w x || b ≡ is-quoted w x
-    go true n = rw (is-true (is-quoted w x) (in-quoted x (accepted-elements limits facts query w e) m n))
+    go true n = rw (is-true (is-quoted w x) (in-quoted x vs m n))
     go false n = or-false (is-quoted w x)
+
+pub quoted-by-facts : (limits : Limits) (facts query : Text) (w : Accepted) → accept limits facts query ≡ ok w → (x : Text) → T (in-facts x (w .facts)) → in-quotes w x ≡ is-quoted w x
+quoted-by-facts limits facts query w e = quotes-given w (accepted-elements limits facts query w e)
 
 -- where n adds nothing to q, a part of it does not either
 adds-nothing : (a n q : Bool) → q || n ≡ q → (a && n) || q ≡ q || n

@@ -16,6 +16,7 @@ use Rattle.definition.specs.Facts.{cut, without-return, lines, fact-line
 use Rattle.definition.specs.Facts.{Facts, with-fact, read-lines, legal-bytes, read-facts}
 use Rattle.definition.specs.Print.{spaced, fact-line}
 use Rattle.definition.proofs.BoolLaws.{or-cases, or-left, and-left, and-right, and-both, is-true, is-false, apart, or-eq-false}
+use Rattle.definition.proofs.AcceptLaws.{no-facts}
 use Rattle.definition.proofs.ListLaws.{all-append, Each, each-none, each-one, Every, every-none, every-one}
 use Rattle.definition.proofs.LoadLaws.{values}
 
@@ -319,12 +320,12 @@ last-skipped limits (l ∷ ls) i = fun-ext (λ s. go s (starts (ascii ".") l) (l
 
 -- a text of lines, each ended by byte 10, is read line by line: rows 1 and 2 are not met
 pub written-lines : (limits : Limits) {ls : List Text} → Every IsLine ls → length (text-of ls) ≤ FACT-BYTES
-    → read-facts limits (text-of ls) ≡ read-lines limits (lines 0 ls) (record { relations = []; universe = []; facts = [] })
+    → read-facts limits (text-of ls) ≡ read-lines limits (lines 0 ls) no-facts
 unfolding read-facts fact-lines
 written-lines limits {ls} hs short =
     let all = legal-all (text-of ls) (legal-written hs) in
     rw (le-ltb FACT-BYTES (length (text-of ls)) short, le-ltb (legal-bytes (text-of ls)) (length (text-of ls)) (omega (arith, all)), cut-written hs)
-    (ap (λ (f : Facts → Answer Facts). f (record { relations = []; universe = []; facts = [] })) (last-skipped limits ls 0))
+    (ap (λ (f : Facts → Answer Facts). f no-facts) (last-skipped limits ls 0))
 
 -- Rows of names and values, written as facts.
 pub record Row : Type 0 where
@@ -442,7 +443,7 @@ text-lines (r ∷ rows) = ap (λ (l : Text). (row-line r ++ (10 ∷ [])) ++ l) (
 
 -- what is written reads back: the text of rows is read as facts that say the same, in the same order; only rows 5 to 7 may refuse them
 pub written-rows : (limits : Limits) {rows : List Row} → Every IsRow rows → length (rows-text rows) ≤ FACT-BYTES
-    → (fs : List Fact) × Each Says rows fs × (read-facts limits (rows-text rows) ≡ take-facts limits fs (record { relations = []; universe = []; facts = [] }))
+    → (fs : List Fact) × Each Says rows fs × (read-facts limits (rows-text rows) ≡ take-facts limits fs no-facts)
 written-rows limits {rows} hs short =
     let n = rows-read limits hs 0 in
     let e = text-lines rows in

@@ -2,6 +2,7 @@
 use Prim.Native.Nat.{ℕ, zero, suc, _+_, _-_, _/_, _%_, _<_, _≤_}
 use mathlib.Core.Path.{_≡_, refl, ap, subst, _∙_}
 use mathlib.Core.List.{List, [], _∷_}
+use mathlib.Core.Bool.{Bool, true, false}
 use native.Mathlib.Omega.{arith}
 use lib.ListN.{length, getD, take, drop, length-map}
 use lib.Seq.{length-take-le}
@@ -9,7 +10,8 @@ use Rattle.definition.specs.Text.{Text}
 use Rattle.definition.specs.Limits.{ARITY, WORD-BYTES}
 use Rattle.definition.specs.Answer.{ok, refused}
 use Rattle.definition.specs.Facts.{Relation, use-relation, last-place, with-fact}
-use Rattle.definition.specs.declared.Refusal.the-variants.{Arity, TooManyRelations, TooManyElements}
+use Rattle.definition.specs.Join.{clashes, join-fact}
+use Rattle.definition.specs.declared.Refusal.the-variants.{Arity, TooManyRelations, TooManyElements, FirstArity}
 use Rattle.definition.specs.Calls.{Part}
 use Rattle.parts.specs.Packed.{text-of}
 use Rattle.parts.specs.Entries.{note}
@@ -17,12 +19,12 @@ use Rattle.parts.proofs.PackLaws.{pack-tag, pack-part}
 use Rattle.facts.specs.declared.Item.{Item}
 use Rattle.facts.specs.declared.FactLine.{FactLine}
 use Rattle.facts.specs.declared.Counts.{Counts}
-use Rattle.facts.specs.declared.Used.the-variants.{Count, OtherArity, Full}
+use Rattle.facts.specs.declared.Used.the-variants.{Count, OtherArity, Clash, Full}
 use Rattle.facts.specs.declared.ElementsUsed.the-variants.{Elements, TooMany}
 use Rattle.facts.specs.declared.FactUsed.the-variants.{Fits, Refused}
 use Rattle.facts.specs.Lines.{items-of, item-at}
 use Rattle.facts.specs.Words.{elements-at, fact-at, relation-of, relations-of, line-word, element-at}
-use Rattle.facts.specs.Pass.{limits-of, RelationUsed, UniverseUsed, FactTaken}
+use Rattle.facts.specs.Pass.{limits-of, clash-of, RelationUsed, UniverseUsed, FactTaken}
 use Rattle.facts.proofs.UseLaws.{facts-text}
 
 -- the place of the last element
@@ -55,22 +57,31 @@ module _ (facts query : Text) (a : ℕ) (f : FactLine) (small : f .arity ≤ ARI
       rw (n, k, t, o, l)
 
   module _ (rs us : List ℕ) (c : Counts) where
+    the-clash : (b : Bool) → clash-of facts query (line-word a f) (take (c .relations) rs) ≡ b
+        → clashes (fact-at facts a f .name) (length (elements-at facts a (items-of f))) (relations-of facts query (take (c .relations) rs)) ≡ b
+    the-clash b h = subst (λ (q : Relation). clashes (q .name) (q .arity) (relations-of facts query (take (c .relations) rs)) ≡ b) relation-line h
+
+    pub taken-clash : (rs′ us′ : List ℕ) → RelationUsed facts query (line-word a f) rs rs′ (c .relations) Clash
+        → FactTaken facts query a f rs rs′ us us′ c (Refused (FirstArity a))
+    unfolding join-fact
+    taken-clash rs′ us′ h fs = rw (the-clash true h)
+
     pub taken-full : (rs′ us′ : List ℕ) → RelationUsed facts query (line-word a f) rs rs′ (c .relations) Full
         → FactTaken facts query a f rs rs′ us us′ c (Refused (TooManyRelations a))
-    unfolding with-fact
+    unfolding join-fact with-fact
     taken-full rs′ us′ h fs =
-        let e = h (length us) (last-place a (elements-at facts a (items-of f))) in
+        let e = h .0 (length us) (last-place a (elements-at facts a (items-of f))) in
         let g : use-relation (limits-of (length rs) (length us)) (record { name = fact-at facts a f .name; arity = length (elements-at facts a (items-of f)); text = 0; at = a }) (last-place a (elements-at facts a (items-of f))) (relations-of facts query (take (c .relations) rs)) ≡ refused 6 a
         = subst (λ (q : Relation). use-relation (limits-of (length rs) (length us)) q (last-place a (elements-at facts a (items-of f))) (relations-of facts query (take (c .relations) rs)) ≡ refused 6 (q .at)) relation-line e in
-        rw g
+        rw (the-clash false (h .1), g)
 
     pub taken-other : (rs′ us′ : List ℕ) (p : ℕ) → ((t : Text) → last-place a (elements-at t a (items-of f)) ≡ p) → RelationUsed facts query (line-word a f) rs rs′ (c .relations) OtherArity
         → FactTaken facts query a f rs rs′ us us′ c (Refused (Arity p))
-    unfolding with-fact
+    unfolding join-fact with-fact
     taken-other rs′ us′ p l h fs =
         let g : use-relation (limits-of (length rs) (length us)) (record { name = fact-at facts a f .name; arity = length (elements-at facts a (items-of f)); text = 0; at = a }) p (relations-of facts query (take (c .relations) rs)) ≡ refused 5 p
-        = subst (λ (q : Relation). use-relation (limits-of (length rs) (length us)) q p (relations-of facts query (take (c .relations) rs)) ≡ refused 5 p) relation-line (h (length us) p) in
-        rw (l facts, g)
+        = subst (λ (q : Relation). use-relation (limits-of (length rs) (length us)) q p (relations-of facts query (take (c .relations) rs)) ≡ refused 5 p) relation-line (h .0 (length us) p) in
+        rw (the-clash false (h .1), l facts, g)
 
     module _ (rs′ us′ : List ℕ) (r : ℕ) (h : RelationUsed facts query (line-word a f) rs rs′ (c .relations) (Count r)) where
       related : use-relation (limits-of (length rs) (length us)) (record { name = fact-at facts a f .name; arity = length (elements-at facts a (items-of f)); text = 0; at = a }) (last-place a (elements-at facts a (items-of f))) (relations-of facts query (take (c .relations) rs))
@@ -81,9 +92,9 @@ module _ (facts query : Text) (a : ℕ) (f : FactLine) (small : f .arity ≤ ARI
           relation-line (h .1 (length us) (last-place a (elements-at facts a (items-of f))))
 
       pub taken-many : (p : ℕ) → UniverseUsed facts query a f us us′ (c .elements) (TooMany p) → FactTaken facts query a f rs rs′ us us′ c (Refused (TooManyElements p))
-      unfolding with-fact
-      taken-many p g fs = rw (related, g (length rs))
+      unfolding join-fact with-fact
+      taken-many p g fs = rw (the-clash false (h .2), related, g (length rs))
 
       pub taken-fits : (e : ℕ) → UniverseUsed facts query a f us us′ (c .elements) (Elements e) → FactTaken facts query a f rs rs′ us us′ c (Fits (record { relations = r; elements = e }))
-      unfolding with-fact
-      taken-fits e g = (h .0, g .0, λ fs. rw (related, g .1 (length rs)))
+      unfolding join-fact with-fact
+      taken-fits e g = (h .0, g .0, λ fs. rw (the-clash false (h .2), related, g .1 (length rs)))

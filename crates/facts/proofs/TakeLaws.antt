@@ -8,7 +8,8 @@ use lib.ListN.{length, take, drop, length-drop, length-map}
 use lib.Seq.{length-take-le, take-take, drop-drop}
 use Rattle.definition.specs.Text.{Text, ascii, starts, gather}
 use Rattle.definition.specs.Answer.{Answer, ok, refused, refusal}
-use Rattle.definition.specs.Facts.{Line, Element, Fact, skipped, fact, read-lines}
+use Rattle.definition.specs.Facts.{Line, Element, Fact, skipped, fact}
+use Rattle.definition.specs.Join.{join-lines}
 use Rattle.definition.specs.declared.Refusal.{Refusal}
 use Rattle.breaks.proofs.FirstLine.{line-size}
 use Rattle.parts.specs.Packed.{pack}
@@ -53,13 +54,13 @@ module _ (facts query : Text) (l : Line) (rs us : List ℕ) (c : Counts) where
   taken-dot e = (was-end (starts (ascii ".") (l .bytes)) (skipped (l .bytes)) (fact l) (sym e), refl, refl)
 
   pub taken-skip : c .relations ≤ length rs → c .elements ≤ length us → skip ≡ role l → Taken facts query l rs rs us us c (More c)
-  unfolding role by-role line-facts read-lines note-all enter-all gather
+  unfolding role by-role line-facts join-lines note-all enter-all gather
   taken-skip a b e =
       let w = was-skip (starts (ascii ".") (l .bytes)) (skipped (l .bytes)) (fact l) (sym e) in
       (w .0, rw (w .1) (held-first rs (c .relations) a), rw (w .1) (held-first us (c .elements) b), λ ls fs. rw (w .1, append-nil))
 
   pub taken-wrong : (q : Refusal) → says (refusal q) ≡ role l → Taken facts query l rs rs us us c (Fails q)
-  unfolding role by-role read-lines
+  unfolding role by-role join-lines
   taken-wrong q e =
       let w = was-said (starts (ascii ".") (l .bytes)) (skipped (l .bytes)) (fact l) (refusal q) (sym e) in
       (w .0, λ ls fs. rw (w .1, w .2))
@@ -149,11 +150,11 @@ module _ (facts query : Text) (a e : ℕ) (h : a ≤ e) (w : e ≤ length facts)
     elements-more = rw (gives, append-nil, item-words)
 
     pub taken-refused : (q : Refusal) → FactTaken facts query a f rs rs′ us us′ c (Refused q) → Taken facts query (line-of facts a e) rs rs′ us us′ c (Fails q)
-    unfolding read-lines
+    unfolding join-lines
     taken-refused q t = (what .0, λ ls fs. rw (what .1, what .2, t fs))
 
     pub taken-fact : (d : Counts) → FactTaken facts query a f rs rs′ us us′ c (Fits d) → Taken facts query (line-of facts a e) rs rs′ us us′ c (More d)
-    unfolding read-lines
+    unfolding join-lines
     taken-fact d t =
         (what .0, rw relations-more (t .0), rw elements-more (t .1), λ ls fs. rw (what .1, what .2, t .2 fs, relations-more, elements-more, gives))
 

@@ -18,7 +18,7 @@ use Rattle.facts.specs.Lines.{element-of, next-word}
 abbrev pub no-quote : ℕ → Bool
 no-quote y = not (eqb y 34)
 
-no-and : (b : Bool) → b && false ≡ false
+pub no-and : (b : Bool) → b && false ≡ false
 no-and true = refl
 no-and false = refl
 

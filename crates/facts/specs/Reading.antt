@@ -6,7 +6,8 @@ use mathlib.Core.List.{List, [], _∷_, _++_, map}
 use lib.ListN.{length, take, drop, replicate}
 use Rattle.definition.specs.Text.{if_then_else_, Text, ascii, starts, gather}
 use Rattle.definition.specs.Answer.{Answer, ok, refused, refusal}
-use Rattle.definition.specs.Facts.{Line, Fact, Facts, cut, lines, fact-lines, skipped, fact, read-lines, read-facts}
+use Rattle.definition.specs.Facts.{Line, Fact, Facts, cut, lines, fact-lines, skipped, fact, read-facts}
+use Rattle.definition.specs.Join.{join-lines, read-second}
 use Rattle.parts.specs.Entries.{Held, note-all, enter-all}
 use Rattle.facts.specs.Lines.{line-at}
 use Rattle.facts.specs.Words.{element-word, fact-word, noted, entered}
@@ -49,26 +50,30 @@ module _ (facts query : Text) where
       (starts (ascii ".") (l .bytes) ≡ false)
       × Held rs rs′ (more-relations (line-facts l) (take (c .relations) rs)) (d .relations)
       × Held us us′ (more-elements (line-facts l) (take (c .elements) us)) (d .elements)
-      × ((ls : List Line) (fs : List Fact) → read-lines (limits-of (length rs) (length us)) (l ∷ ls) (facts-of facts query (take (c .relations) rs) (take (c .elements) us) fs)
-      ≡ read-lines (limits-of (length rs) (length us)) ls
+      × ((ls : List Line) (fs : List Fact) → join-lines (limits-of (length rs) (length us)) (l ∷ ls) (facts-of facts query (take (c .relations) rs) (take (c .elements) us) fs)
+      ≡ join-lines (limits-of (length rs) (length us)) ls
       (facts-of facts query (more-relations (line-facts l) (take (c .relations) rs)) (more-elements (line-facts l) (take (c .elements) us)) (fs ++ line-facts l)))
   Taken l rs rs′ us us′ c Dot = (starts (ascii ".") (l .bytes) ≡ true) × (rs′ ≡ rs) × (us′ ≡ us)
   Taken l rs rs′ us us′ c (Fails q) =
       (starts (ascii ".") (l .bytes) ≡ false)
-      × ((ls : List Line) (fs : List Fact) → read-lines (limits-of (length rs) (length us)) (l ∷ ls) (facts-of facts query (take (c .relations) rs) (take (c .elements) us) fs) ≡ refusal q)
+      × ((ls : List Line) (fs : List Fact) → join-lines (limits-of (length rs) (length us)) (l ∷ ls) (facts-of facts query (take (c .relations) rs) (take (c .elements) us) fs) ≡ refusal q)
 
-  -- what is there before the first line
-  abbrev pub no-facts : Facts
-  no-facts = record { relations = []; universe = []; facts = [] }
+  -- what a reader of this text answers after the first relations and elements of the words
+  abbrev pub AnswersAfter : (Facts → Answer Facts) → Counts → List ℕ → List ℕ → List ℕ → List ℕ → FactsRead → Type 0
+  AnswersAfter read c rs rs′ us us′ (Given d) =
+      ((fs : List Fact) → read (facts-of facts query (take (c .relations) rs) (take (c .elements) us) fs)
+      ≡ ok (facts-of facts query (more-relations (all-facts facts) (take (c .relations) rs)) (more-elements (all-facts facts) (take (c .elements) us)) (fs ++ all-facts facts)))
+      × Held rs rs′ (more-relations (all-facts facts) (take (c .relations) rs)) (d .relations)
+      × Held us us′ (more-elements (all-facts facts) (take (c .elements) us)) (d .elements)
+  AnswersAfter read c rs rs′ us us′ (Refused q) = (fs : List Fact) → read (facts-of facts query (take (c .relations) rs) (take (c .elements) us) fs) ≡ refusal q
 
   -- all lines read
-  abbrev pub LinesRead : List ℕ → List ℕ → List ℕ → List ℕ → FactsRead → Type 0
-  LinesRead rs rs′ us us′ (Given c) =
-      (read-lines (limits-of (length rs) (length us)) (fact-lines facts) no-facts
-      ≡ ok (facts-of facts query (noted facts query (all-facts facts)) (entered facts query (all-facts facts)) (all-facts facts)))
-      × Held rs rs′ (noted facts query (all-facts facts)) (c .relations)
-      × Held us us′ (entered facts query (all-facts facts)) (c .elements)
-  LinesRead rs rs′ us us′ (Refused q) = read-lines (limits-of (length rs) (length us)) (fact-lines facts) no-facts ≡ refusal q
+  abbrev pub LinesRead : Counts → List ℕ → List ℕ → List ℕ → List ℕ → FactsRead → Type 0
+  LinesRead c rs rs′ us us′ r = AnswersAfter (join-lines (limits-of (length rs) (length us)) (fact-lines facts)) c rs rs′ us us′ r
+
+  -- rows 1 and 2, then all lines
+  abbrev pub MeetsAfter : Counts → List ℕ → List ℕ → List ℕ → List ℕ → FactsRead → Type 0
+  MeetsAfter c rs rs′ us us′ r = AnswersAfter (λ s. read-second (limits-of (length rs) (length us)) s facts) c rs rs′ us us′ r
 
   -- rows 1 to 7, and all lent words: a refusal clears them
   abbrev pub Meets : List ℕ → List ℕ → List ℕ → List ℕ → FactsRead → Type 0

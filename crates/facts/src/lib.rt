@@ -10,7 +10,7 @@ ghost use Rattle.parts.specs.Entries.{texts-of};
 ghost use Rattle.facts.specs.Lines.{start-of, Within, AllWithin, NextWithin, ReadWithin, items-of, item-at, line-at, next-word, word-of, says, says-elements, role, role-of};
 ghost use Rattle.facts.specs.Words.{elements-at, item-word};
 ghost use Rattle.facts.specs.Pass.{RelationUsed, UniverseUsed, FactTaken};
-ghost use Rattle.facts.specs.Reading.{line-of, Taken, LinesRead, Meets};
+ghost use Rattle.facts.specs.Reading.{line-of, Taken, LinesRead, MeetsAfter, Meets};
 ghost use Rattle.facts.specs.Again.{FactOfLine, NextIs};
 use breaks::FactsBytes;
 use breaks::check_bytes;
@@ -233,14 +233,16 @@ pub fn read_line(l: &[u8]) -> LineRead
     read_fact(l)
 }
 
-// How many relations there are after the use of a name, or that it has another arity, or that there is no room for one more.
+// How many relations there are after the use of a name, or that it has another arity, in this text or in the first, or that there is no
+// room for one more.
 enum Used {
     Count(usize),
     OtherArity,
+    Clash,
     Full,
 }
 
-// The use of the name v, whose tag is its arity, after the first n relations.
+// The use of the name v, whose tag is its arity, after the first n relations: those of the first text are parts of `query`.
 fn use_relation<'a>(
     facts: &'a [u8],
     query: &'a [u8],
@@ -254,10 +256,13 @@ fn use_relation<'a>(
     let k = index_of(facts, query, &relations[..n], v);
     if k < n {
         let w = relations[k];
-        if w % 4 != v % 4 {
-            return Used::OtherArity;
+        if w % 4 == v % 4 {
+            return Used::Count(n);
         }
-        return Used::Count(n);
+        if w / 4 % 2 == 1 {
+            return Used::Clash;
+        }
+        return Used::OtherArity;
     }
     if n == relations.len() {
         return Used::Full;
@@ -355,7 +360,7 @@ enum FactUsed {
     Refused(Refusal),
 }
 
-// Takes in a fact of the line that starts at a: "then 5 for another arity ..; then 6, 7".
+// Takes in a fact of the line that starts at a: "then 5 for another arity .." or 20; "then 6, 7".
 fn with_fact<'a>(
     facts: &'a [u8],
     query: &'a [u8],
@@ -379,6 +384,7 @@ fn with_fact<'a>(
         packed(0, a, f.name_len, f.arity),
     ) {
         Used::Full => FactUsed::Refused(Refusal::TooManyRelations(a)),
+        Used::Clash => FactUsed::Refused(Refusal::FirstArity(a)),
         Used::OtherArity => FactUsed::Refused(Refusal::Arity(last_place(a, f))),
         Used::Count(r) => match use_elements(facts, query, universe, hints, m, a, f) {
             ElementsUsed::TooMany(p) => FactUsed::Refused(Refusal::TooManyElements(p)),
@@ -430,36 +436,53 @@ pub enum FactsRead {
     Refused(Refusal),
 }
 
-// "line by line, in each 3, then per element 4 and, at the first too many, 5; then 5 for another arity ..; then 6, 7"
+// "line by line, in each 3, then per element 4 and, at the first too many, 5; then 5 for another arity .." or 20; "then 6, 7"
 fn read_lines<'a>(
     facts: &'a [u8],
     query: &'a [u8],
     relations: &mut [usize],
     universe: &mut [usize],
+    c: Counts,
 ) -> FactsRead
-    requires { ⌜ length (now facts) ≤ FACT-BYTES ⌝ }
-    ensures { λ r. ⌜ LinesRead (now (facts .entry)) (now (query .entry)) (now (relations .entry)) (now (relations .exit)) (now (universe .entry)) (now (universe .exit)) r ⌝ }
+    requires { ⌜ (c .relations ≤ length (now relations)) × (c .elements ≤ length (now universe)) × (length (now facts) ≤ FACT-BYTES) × Ascending (texts-of (now facts) (now query) (take (c .elements) (now universe))) ⌝ }
+    ensures { λ r. ⌜ LinesRead (now (facts .entry)) (now (query .entry)) c (now (relations .entry)) (now (relations .exit)) (now (universe .entry)) (now (universe .exit)) r ⌝ }
 {
     let mut hints = [255u8; 256];
-    let mut c = Counts {
-        relations: 0,
-        elements: 0,
-    };
+    let mut k = c;
     let mut a: usize = 0;
     loop {
         let e = run_end(facts, a, Class::NoEnd);
         let t = line_end(facts, a, e);
-        match take_line(facts, query, relations, universe, &mut hints, c, a, t) {
-            LineTaken::Dot => return FactsRead::Given(c),
+        match take_line(facts, query, relations, universe, &mut hints, k, a, t) {
+            LineTaken::Dot => return FactsRead::Given(k),
             LineTaken::Fails(q) => return FactsRead::Refused(q),
             LineTaken::More(d) => {
-                c = d;
+                k = d;
             }
         }
         if e == facts.len() {
-            return FactsRead::Given(c);
+            return FactsRead::Given(k);
         }
         a = e + 1;
+    }
+}
+
+// Reads a text after another (rows 1 to 7, and 20 for an arity that the first text gives): the lent words, whose lengths are the limits,
+// hold the relations and elements of the first as parts of `query`, and those of this text are added as parts of `facts`. Of a refusal
+// nothing is said of the words.
+pub fn read_second<'a>(
+    facts: &'a [u8],
+    query: &'a [u8],
+    relations: &mut [usize],
+    universe: &mut [usize],
+    c: Counts,
+) -> FactsRead
+    requires { ⌜ (c .relations ≤ length (now relations)) × (c .elements ≤ length (now universe)) × Ascending (texts-of (now facts) (now query) (take (c .elements) (now universe))) ⌝ }
+    ensures { λ r. ⌜ MeetsAfter (now (facts .entry)) (now (query .entry)) c (now (relations .entry)) (now (relations .exit)) (now (universe .entry)) (now (universe .exit)) r ⌝ }
+{
+    match check_bytes(facts) {
+        FactsBytes::Wrong(q) => FactsRead::Refused(q),
+        FactsBytes::Right => read_lines(facts, query, relations, universe, c),
     }
 }
 
@@ -483,20 +506,17 @@ pub fn read_facts<'a>(
 ) -> FactsRead
     ensures { λ r. ⌜ Meets (now (facts .entry)) (now (query .entry)) (now (relations .entry)) (now (relations .exit)) (now (universe .entry)) (now (universe .exit)) r ⌝ }
 {
-    match check_bytes(facts) {
-        FactsBytes::Wrong(q) => {
+    let none = Counts {
+        relations: 0,
+        elements: 0,
+    };
+    match read_second(facts, query, relations, universe, none) {
+        FactsRead::Given(c) => FactsRead::Given(c),
+        FactsRead::Refused(q) => {
             clear(relations);
             clear(universe);
             FactsRead::Refused(q)
         }
-        FactsBytes::Right => match read_lines(facts, query, relations, universe) {
-            FactsRead::Refused(q) => {
-                clear(relations);
-                clear(universe);
-                FactsRead::Refused(q)
-            }
-            FactsRead::Given(c) => FactsRead::Given(c),
-        },
     }
 }
 

@@ -1,12 +1,15 @@
-// Worked facts: what is given, or the row and the place of the refusal. Most have two relations and four elements as limits; then
-// document 01's own limits, below, at and above each.
+// Worked facts: what is given, or the row and the place of the refusal. Most have two relations and four elements as limits, alone and
+// after another text; then document 01's own limits, below, at and above each.
+use facts::Counts;
 use facts::FactsRead;
 use facts::read_facts;
+use facts::read_second;
 use libc::STDOUT_FILENO;
 use lines::put;
 use lines::put_text;
 use page::put_number;
 use page::put_refusal;
+use parts::packed;
 use parts::part;
 
 // Ends the line at place n and writes it.
@@ -37,6 +40,22 @@ fn show(facts: &[u8]) {
     let mut relations = [0usize; 2];
     let mut universe = [0usize; 4];
     show_read(facts, &mut relations, &mut universe)
+}
+
+// After the text "A x", of which one relation and one element are known
+fn show_second(facts: &[u8]) {
+    let mut line = [0u8; 256];
+    let mut relations = [0usize; 2];
+    let mut universe = [0usize; 4];
+    let c = Counts {
+        relations: 1,
+        elements: 1,
+    };
+    relations[0] = packed(1, 0, 1, 1);
+    universe[0] = packed(1, 2, 1, 0);
+    let f = read_second(facts, b"A x", &mut relations, &mut universe, c);
+    let n = put_read(&mut line, f);
+    write_line(&mut line, n);
 }
 
 // "At most 16 relations", "at most 64" elements
@@ -109,6 +128,27 @@ fn other_returns() {
     show(b"A x\r\n\r.");
 }
 
+// The facts of both; "20 with the name's offset in the second text", and 5 where the first does not give the relation
+fn second_lists() {
+    show_second(b"A x");
+    show_second(b"A y\nB x y");
+    show_second(b"B x\n.\nA");
+    show_second(b"B\nA x y");
+    show_second(b"A");
+    show_second(b"A a b c d");
+    show_second(b"B x\nB");
+    show_second(b"B x\nB x y");
+}
+
+// "6 and 7 count the union, with the place in the second"; 2 is of the second alone
+fn second_limits() {
+    show_second(b"A\nB\nC");
+    show_second(b"A x\nB\nC");
+    show_second(b"A a\nA b\nA c");
+    show_second(b"A a\nA b\nA c\nA d");
+    show_second(b"A\n\x7f");
+}
+
 // 15, 16 and 17 relations
 fn many_relations() {
     show_full(b"A\nB\nC\nD\nE\nF\nG\nH\nI\nJ\nK\nL\nM\nN\nO");
@@ -154,6 +194,8 @@ fn main() {
     bytes();
     line_ends();
     other_returns();
+    second_lists();
+    second_limits();
     many_relations();
     many_elements();
     many_bytes();

@@ -12,11 +12,14 @@ use Rattle.definition.specs.declared.Ran.the-variants as Ran
 use Rattle.definition.specs.declared.RunAnswer.{RunAnswer}
 use Rattle.definition.specs.declared.Chained.{Chained}
 use Rattle.definition.specs.declared.Chained.the-variants as Chained
+use Rattle.definition.specs.declared.Joined.{Joined}
+use Rattle.definition.specs.declared.Joined.the-variants as Joined
 use Rattle.fields.specs.declared.CRecord.{CRecord}
 use Rattle.fields.specs.declared.CChecked.{CChecked}
 use Rattle.fields.specs.declared.CRan.{CRan}
 use Rattle.fields.specs.declared.CPart.{CPart}
 use Rattle.fields.specs.declared.CChained.{CChained}
+use Rattle.fields.specs.declared.CJoined.{CJoined}
 
 abbrev pub record-fields : Record → CRecord
 record-fields r = record { text = r .text; offset = r .offset; length = r .length; arity = r .arity; first = r .first; count = r .count }
@@ -38,6 +41,10 @@ ran-fields a = ended-fields (a .ran) (a .counts)
 abbrev pub chained-fields : Chained → CChained
 chained-fields (Chained.Chain n) = record { refusal = 0; place = 0; count = n }
 chained-fields (Chained.Refused q) = record { refusal = number q; place = place q; count = 0 }
+
+abbrev pub joined-fields : Joined → CJoined
+joined-fields (Joined.Length n) = record { refusal = 0; place = 0; text = 0; length = n }
+joined-fields (Joined.Refused q text) = record { refusal = number q; place = place q; text = text; length = 0 }
 
 abbrev pub part-fields : Part → CPart
 part-fields p = record { text = p .text; offset = p .offset; length = p .length }

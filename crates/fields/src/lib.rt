@@ -5,10 +5,11 @@ ghost use mathlib.Core.List.{map};
 ghost use lib.ListN.{length};
 ghost use Rattle.definition.specs.Answer.{ending-number};
 ghost use Rattle.parts.specs.Packed.{part-of};
-ghost use Rattle.fields.specs.Fields.{record-fields, checked-fields, ran-fields, chained-fields, part-fields};
+ghost use Rattle.fields.specs.Fields.{record-fields, checked-fields, ran-fields, chained-fields, joined-fields, part-fields};
 use definition::Chained;
 use definition::Checked;
 use definition::Ending;
+use definition::Joined;
 use definition::Ran;
 use definition::Record;
 use definition::RunAnswer;
@@ -62,6 +63,15 @@ pub struct CChained {
     pub refusal: u64,
     pub place: u64,
     pub count: u64,
+}
+
+// What the join answers: the text that a refusal is of is 1 for the first, 2 for the second and 0 for neither.
+#[repr(C)]
+pub struct CJoined {
+    pub refusal: u64,
+    pub place: u64,
+    pub text: u64,
+    pub length: u64,
 }
 
 fn record_fields(r: Record) -> CRecord
@@ -191,6 +201,25 @@ pub fn chained_fields(a: Chained) -> CChained
             refusal: answers::number(q) as u64,
             place: answers::place(q) as u64,
             count: 0,
+        },
+    }
+}
+
+pub fn joined_fields(a: Joined) -> CJoined
+    ensures { λ r. ⌜ r ≡ joined-fields a ⌝ }
+{
+    match a {
+        Joined::Length(n) => CJoined {
+            refusal: 0,
+            place: 0,
+            text: 0,
+            length: n as u64,
+        },
+        Joined::Refused(q, text) => CJoined {
+            refusal: answers::number(q) as u64,
+            place: answers::place(q) as u64,
+            text: text as u64,
+            length: 0,
         },
     }
 }

@@ -23,7 +23,7 @@ module _ (w : ℕ) where
   pub most-bare : (w % 4 ≡ 1 → ⊥) → w / 8 % 64 ≡ shown-most w
   most-bare h = ap (λ (b : Bool). if b then (w / 8 % 64 + 2) else (w / 8 % 64)) (sym (ne-eqb (w % 4) 1 h))
 
-  most-small : shown-most w ≤ 65
+  pub most-small : shown-most w ≤ 65
   most-small = go (eqb (tag-of w) 1)
     where
       go : (b : Bool) → (if b then (w / 8 % 64 + 2) else (w / 8 % 64)) ≤ 65
@@ -35,7 +35,7 @@ unfolding text-of
 text-within f q w = subst (λ (n : ℕ). n ≤ w / 8 % 64) (sym (length-take (w / 8 % 64) _)) (min-le-left (w / 8 % 64) _)
 
 module _ (T : Texts) where
-  shown-within : (a : ℕ) → length (shown-at T a) ≤ shown-most (getD (T .places) a 0)
+  pub shown-within : (a : ℕ) → length (shown-at T a) ≤ shown-most (getD (T .places) a 0)
   unfolding shown-at
   shown-within a = go (eqb (tag-of (getD (T .places) a 0)) 1)
     where

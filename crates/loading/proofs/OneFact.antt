@@ -1,8 +1,8 @@
--- One of the facts of accepted texts, as it is read again: its tuple, and the place of its relation.
+-- One of the facts, as it is read again: its tuple, and the place of its relation.
 use Prim.Native.Nat.{ℕ, suc, _≤_}
-use mathlib.Core.Path.{_≡_, refl, sym, ap, ap₂, subst, _∙_}
+use mathlib.Core.Path.{_≡_, refl, sym, ap, subst, _∙_}
 use mathlib.Core.Bool.{Bool, true, false, not, cond}
-use mathlib.Core.List.{List, [], _∷_, _++_, append-nil, append-assoc}
+use mathlib.Core.List.{List, [], _∷_, _++_, map, append-nil, append-assoc, map-map}
 use native.Mathlib.Omega.{arith}
 use lib.Dec.{T}
 use lib.ListN.{length, length-map}
@@ -10,25 +10,23 @@ use lib.Seq.{length-take-le}
 use Rattle.definition.specs.Text.{Text, same, member, span, gather}
 use Rattle.definition.specs.Limits.{Limits, document-01}
 use Rattle.definition.specs.Answer.{Answer, ok, _>>=_}
-use Rattle.definition.specs.Facts.{Fact, Facts, Line, with-fact, skipped, fact, read-lines, fact-lines, Ascending}
+use Rattle.definition.specs.Facts.{Fact, Facts, Line, Relation, with-fact, skipped, fact, read-lines, fact-lines, Ascending}
 use Rattle.definition.specs.Tables.{Tuple}
 use Rattle.definition.specs.Accept.{Accepted, accept}
-use Rattle.definition.specs.Names.{left-strings}
-use Rattle.definition.proofs.BoolLaws.{or-right}
 use Rattle.definition.proofs.InLaws.{In, in-some, every-in}
 use Rattle.definition.proofs.RelationLaws.{place-of}
-use Rattle.definition.proofs.AcceptLaws.{ok-injective, bind-ok, fact-added, lines-read, parts, universe, has, in-facts}
-use Rattle.definition.proofs.NamedLaws.{accepted-named}
-use Rattle.definition.proofs.UniverseSize.{universe-few}
+use Rattle.definition.proofs.AcceptLaws.{ok-injective, bind-ok, fact-added, lines-read, parts, has, in-facts}
+use Rattle.definition.proofs.NamedLaws.{names}
+use Rattle.definition.proofs.SoundLaws.{accepted-sound}
 use Rattle.tuples.proofs.Loading.{Alone, Numbered}
 use Rattle.parts.specs.Packed.{text-of}
 use Rattle.parts.specs.Entries.{index, texts-of}
 use Rattle.facts.specs.declared.FactLine.{FactLine}
 use Rattle.facts.specs.Lines.{AllWithin, items-of}
-use Rattle.facts.specs.Words.{fact-at, line-word, relations-of}
+use Rattle.facts.specs.Words.{fact-at, line-word, relation-of}
 use Rattle.facts.specs.Reading.{answered, line-facts, facts-from}
 use Rattle.facts.proofs.UseLaws.{facts-text}
-use Rattle.loading.specs.Given.{tuple-at, Known}
+use Rattle.loading.specs.Given.{tuple-at, Known, Stated}
 use Rattle.loading.proofs.Named.{alone}
 use Rattle.loading.proofs.Tuples.{short-items, numbered}
 
@@ -56,27 +54,44 @@ accepted-again limits facts query w e =
 
 -- ---- a fact's relation
 
-index-place : (facts query : Text) (v : ℕ) (ws : List ℕ) → index facts query v ws ≡ place-of (text-of facts query v) (relations-of facts query ws)
+-- relations with the names that some words have
+pub index-place : (facts query : Text) (v : ℕ) (ws : List ℕ) (rs : List Relation) → map (text-of facts query) ws ≡ names rs → index facts query v ws ≡ place-of (text-of facts query v) rs
 unfolding index span place-of
-index-place facts query v [] = refl
-index-place facts query v (w ∷ ws) = go (same (text-of facts query v) (text-of facts query w)) (index-place facts query v ws)
+index-place facts query v [] [] e = refl
+index-place facts query v [] (r ∷ rs) e = let z : _≡_ {A = ℕ} 0 1 = cc in absurd (omega arith)
+index-place facts query v (w ∷ ws) [] e = let z : _≡_ {A = ℕ} 0 1 = cc in absurd (omega arith)
+index-place facts query v (w ∷ ws) (r ∷ rs) e =
+    let first : text-of facts query w ≡ r .name = cc in
+    let rest : map (text-of facts query) ws ≡ names rs = cc in
+    go (same (text-of facts query v) (text-of facts query w)) (index-place facts query v ws rs rest)
+    ∙ ap (λ (x : Text). cond (same (text-of facts query v) x) 0 (suc (place-of (text-of facts query v) rs))) first
   where
-    go : (b : Bool) → index facts query v ws ≡ place-of (text-of facts query v) (relations-of facts query ws)
-        → cond (not b) (suc (index facts query v ws)) 0 ≡ cond b 0 (suc (place-of (text-of facts query v) (relations-of facts query ws)))
+    go : (b : Bool) → index facts query v ws ≡ place-of (text-of facts query v) rs → cond (not b) (suc (index facts query v ws)) 0 ≡ cond b 0 (suc (place-of (text-of facts query v) rs))
     go true ih = refl
     go false ih = ap suc ih
 
--- ---- one fact
+-- ---- what is known is stated
 
 module _ (facts query : Text) (relations places : List ℕ) (w : Accepted) (g : Known facts query relations places w) where
-  pub in-byte-order : Ascending (texts-of facts query places)
-  in-byte-order = subst Ascending (sym (g .universe)) (universe document-01 facts query w (g .accepted) .ascending)
-
   pub all-again : w .facts ≡ facts-from facts 0
   all-again = accepted-again document-01 facts query w (g .accepted)
 
+  pub known-stated : Stated facts query relations places w
+  known-stated =
+      record {
+        sound = accepted-sound document-01 facts query w (g .accepted);
+        names = sym (map-map (λ r. r .name) (relation-of facts query) relations) ∙ ap names (g .relations);
+        universe = g .universe;
+      }
+
+-- ---- one fact
+
+module _ (facts query : Text) (relations places : List ℕ) (w : Accepted) (g : Stated facts query relations places w) where
+  pub in-byte-order : Ascending (texts-of facts query places)
+  in-byte-order = subst Ascending (sym (g .universe)) (g .sound .ascending)
+
   pub few : length (w .universe) ≤ 64
-  few = universe-few document-01 facts query w (g .accepted)
+  few = g .sound .few-elements
 
   module _ (a n : ℕ) (f : FactLine) (within : AllWithin n f) (i : In (fact-at facts a f) (w .facts)) where
     abbrev this : Fact
@@ -90,20 +105,18 @@ module _ (facts query : Text) (relations places : List ℕ) (w : Accepted) (g : 
 
     in-universe : (x : Text) → T (has x (this .elements)) → T (member x (w .universe))
     unfolding in-facts
-    in-universe x t =
-        subst T (sym (universe document-01 facts query w (g .accepted) .members x)) (or-right (has x (left-strings (w .program))) (in-facts x (w .facts)) (in-some (λ h. has x (h .elements)) i t))
+    in-universe x t = g .sound .inside x (in-some (λ h. has x (h .elements)) i t)
 
     pub its-numbers : Numbered (w .universe) (this .elements) tuple
     its-numbers = numbered facts query places (w .universe) (g .universe) few a (items-of f) (short-items f within) in-universe
 
     pub relation-place : index facts query (line-word a f) relations ≡ place-of (this .name) (w .relations)
     relation-place =
-        index-place facts query (line-word a f) relations
-        ∙ ap₂ place-of (facts-text facts query a (f .«name_len») (f .arity) (omega (arith, within .name)) (omega (arith, within .arity))) (g .relations)
+        index-place facts query (line-word a f) relations (w .relations) (g .names)
+        ∙ ap (λ (x : Text). place-of x (w .relations)) (facts-text facts query a (f .«name_len») (f .arity) (omega (arith, within .name)) (omega (arith, within .arity)))
 
     -- no other relation has its name, and its arity is the fact's
     pub only : Alone (this .name) (length tuple) (w .relations) (index facts query (line-word a f) relations)
     only =
-        let named = accepted-named document-01 facts query w (g .accepted) in
         let e : length (this .elements) ≡ length tuple = length-map (items-of f) _ ∙ sym (length-map (items-of f) _) in
-        subst (Alone (this .name) (length tuple) (w .relations)) (sym relation-place) (alone (this .name) (length tuple) (w .relations) (named .distinct) (every-in (named .fitted) i ∙ ap (λ (m : ℕ). m ∷ []) e))
+        subst (Alone (this .name) (length tuple) (w .relations)) (sym relation-place) (alone (this .name) (length tuple) (w .relations) (g .sound .distinct) (every-in (g .sound .fitted) i ∙ ap (λ (m : ℕ). m ∷ []) e))

@@ -6,7 +6,6 @@ use native.Mathlib.Omega.{arith}
 use lib.ListN.{length, getD, take, drop, replicate, length-append, length-drop, length-replicate, replicate-append-replicate}
 use lib.Seq.{sets, length-take-le, take-at, drop-at}
 use Rattle.definition.specs.Text.{Text, some-of, gather}
-use Rattle.definition.specs.Limits.{document-01}
 use Rattle.definition.specs.Facts.{Relation, Fact}
 use Rattle.definition.specs.Tables.{Tuple, table, table-words}
 use Rattle.definition.specs.Accept.{Accepted, elements, relation-words, scratch-words, words-needed}
@@ -14,7 +13,6 @@ use Rattle.definition.specs.Assignment.{fact-holds, loaded}
 use Rattle.definition.specs.Claim.{table-image, store-image}
 use Rattle.definition.proofs.TableLaws.{length-table}
 use Rattle.definition.proofs.InLaws.{In, here, in-right}
-use Rattle.definition.proofs.AcceptLaws.{universe}
 use Rattle.tuples.specs.Places.{with-tuple}
 use Rattle.tuples.proofs.Loading.{Alone, here as first-alone, there as later-alone, tables-by, tables-by-none, tables-by-all, store-grows}
 use Rattle.parts.specs.Entries.{index}
@@ -22,8 +20,8 @@ use Rattle.facts.specs.declared.FactLine.{FactLine}
 use Rattle.facts.specs.Lines.{AllWithin}
 use Rattle.facts.specs.Words.{fact-at, line-word}
 use Rattle.facts.specs.Reading.{facts-from}
-use Rattle.loading.specs.Given.{tuple-at, Ready, Loaded, AllLoaded}
-use Rattle.loading.proofs.OneFact.{all-again, few, arity, its-numbers, only}
+use Rattle.loading.specs.Given.{tuple-at, Stated, Ready, Loaded, AllLoaded}
+use Rattle.loading.proofs.OneFact.{all-again, known-stated, few, arity, its-numbers, only}
 
 -- ---- the words of a relation
 
@@ -89,6 +87,9 @@ module _ (facts query : Text) (relations places firsts : List ℕ) (u : ℕ) (w 
         words = e ∙ sym (replicate-append-replicate (relation-words (elements w) (w .relations)) (scratch-words w) 0) ∙ ap (λ (l : List ℕ). l ++ replicate (scratch-words w) 0) (tables-by-none w (w .relations));
       }
 
+  stated : Stated facts query relations places w
+  stated = known-stated facts query relations places w (r .known)
+
   module _ (a n : ℕ) (f : FactLine) (within : AllWithin n f) (gs : List Fact) (store : List ℕ) (l : Loaded w (fact-at facts a f ∷ gs) store) where
     abbrev this : Fact
     this = fact-at facts a f
@@ -103,13 +104,13 @@ module _ (facts query : Text) (relations places firsts : List ℕ) (u : ℕ) (w 
     given = subst (In this) (sym (l .all)) (in-right (l .so-far) (here refl))
 
     one-only : Alone (this .name) (length tuple) (w .relations) k
-    one-only = only facts query relations places w (r .known) a n f within given
+    one-only = only facts query relations places w stated a n f within given
 
     first : getD firsts k 0 ≡ relation-words (elements w) (take k (w .relations))
     first = r .laid .relations k (room (elements w) one-only .0)
 
     words : table-words u (f .arity) ≡ table-words (elements w) (length tuple)
-    words = ap₂ table-words (r .size) (sym (arity facts query relations places w (r .known) a n f within given))
+    words = ap₂ table-words (r .size) (sym (arity facts query relations places w stated a n f within given))
 
     inside : getD firsts k 0 + table-words u (f .arity) ≤ length store
     inside =
@@ -127,7 +128,7 @@ module _ (facts query : Text) (relations places firsts : List ℕ) (u : ℕ) (w 
           all = l .all ∙ sym (append-assoc (l .so-far) (this ∷ []) gs);
           words =
               h inside ∙ ap (λ (v : ℕ). sets store (getD firsts k 0) (with-tuple v (take (table-words u (f .arity)) (drop (getD firsts k 0) store)) tuple)) (r .size)
-              ∙ store-grows w (few facts query relations places w (r .known)) (universe document-01 facts query w (r .known .accepted) .ascending) (l .so-far) this tuple (its-numbers facts query relations places w (r .known) a n f within given) one-only store (replicate (scratch-words w) 0) (getD firsts k 0) (table-words u (f .arity)) (l .words) first words;
+              ∙ store-grows w (few facts query relations places w stated) (stated .sound .ascending) (l .so-far) this tuple (its-numbers facts query relations places w stated a n f within given) one-only store (replicate (scratch-words w) 0) (getD firsts k 0) (table-words u (f .arity)) (l .words) first words;
         }
 
     -- the next fact's tuple put into its relation's table

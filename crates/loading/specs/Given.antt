@@ -1,4 +1,4 @@
--- What the caller has of two accepted texts, the numbers of a fact's elements, and a store in which some facts are loaded.
+-- What the caller has of facts and of two accepted texts, the numbers of a fact's elements, and a store in which some facts are loaded.
 use Prim.Native.Nat.{ℕ, _+_, _%_}
 use mathlib.Core.Path.{_≡_}
 use mathlib.Core.List.{List, _++_, map}
@@ -11,6 +11,8 @@ use Rattle.definition.specs.Tables.{Tuple}
 use Rattle.definition.specs.Accept.{Accepted, accept, elements, scratch-words}
 use Rattle.definition.specs.Assignment.{loaded}
 use Rattle.definition.specs.Claim.{table-image}
+use Rattle.definition.proofs.NamedLaws.{names}
+use Rattle.definition.proofs.SoundLaws.{Sound}
 use Rattle.tuples.proofs.Loading.{tables-by}
 use Rattle.parts.specs.Packed.{pack, text-of}
 use Rattle.parts.specs.Entries.{index}
@@ -40,6 +42,12 @@ module _ (facts query : Text) where
     pub size : u ≡ elements w
     pub scratch : ℕ
     pub laid : Laid w firsts scratch
+
+  -- relations, by their names, and elements of facts that need not be those of accepted texts
+  pub record Stated (rs places : List ℕ) (w : Accepted) : Type 0 where
+    pub sound : Sound document-01 w
+    pub names : map (text-of facts query) rs ≡ names (w .relations)
+    pub universe : map (text-of facts query) places ≡ w .universe
 
 -- words that hold the tables of all facts but the last ones, gs
 pub record Loaded (w : Accepted) (gs : List Fact) (store : List ℕ) : Type 0 where

@@ -1,17 +1,19 @@
--- What the four calls answer to hosts: each the fields of an answer that meets its definition.
+-- What the five calls answer to hosts: each the fields of an answer that meets its definition.
 use Prim.Native.Nat.{ℕ}
 use mathlib.Core.Path.{_≡_}
 use mathlib.Core.List.{List}
 use Rattle.definition.specs.Text.{Text}
 use Rattle.definition.specs.Limits.{document-01}
-use Rattle.definition.specs.Calls.{CheckMeets, RunMeets, CountsMeet, ChainMeets}
+use Rattle.definition.specs.Calls.{CheckMeets, RunMeets, CountsMeet, ChainMeets, JoinMeets}
 use Rattle.definition.specs.declared.Checked.{Checked}
 use Rattle.definition.specs.declared.RunAnswer.{RunAnswer}
 use Rattle.definition.specs.declared.Chained.{Chained}
+use Rattle.definition.specs.declared.Joined.{Joined}
 use Rattle.fields.specs.declared.CChecked.{CChecked}
 use Rattle.fields.specs.declared.CRan.{CRan}
 use Rattle.fields.specs.declared.CChained.{CChained}
-use Rattle.fields.specs.Fields.{checked-fields, ran-fields, chained-fields}
+use Rattle.fields.specs.declared.CJoined.{CJoined}
+use Rattle.fields.specs.Fields.{checked-fields, ran-fields, chained-fields, joined-fields}
 
 pub record CheckAnswers (facts query : Text) (r : CChecked) : Type 0 where
   pub answer : Checked
@@ -28,3 +30,8 @@ pub record ChainAnswers (facts name first second : Text) (buffer : List ℕ) (r 
   pub answer : Chained
   pub meets : ChainMeets document-01 facts name first second buffer answer buffer′
   pub fields : r ≡ chained-fields answer
+
+pub record JoinAnswers (first second output : Text) (r : CJoined) (output′ : Text) : Type 0 where
+  pub answer : Joined
+  pub meets : JoinMeets document-01 first second output answer output′
+  pub fields : r ≡ joined-fields answer

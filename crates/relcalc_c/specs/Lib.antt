@@ -1,2 +1,2 @@
--- What the four calls answer to hosts, in document 01's numbers.
+-- What the five calls answer to hosts, in document 01's numbers.
 pub mod Answers

@@ -3,9 +3,10 @@ ghost use mathlib.Core.Path.{_≡_};
 ghost use Rattle.definition.specs.Limits.{document-01};
 ghost use Rattle.definition.specs.Calls.{element};
 ghost use Rattle.fields.specs.Fields.{part-fields};
-ghost use Rattle.relcalc_c.specs.Answers.{CheckAnswers, RunAnswers, ChainAnswers};
+ghost use Rattle.relcalc_c.specs.Answers.{CheckAnswers, RunAnswers, ChainAnswers, JoinAnswers};
 use fields::CChained;
 use fields::CChecked;
+use fields::CJoined;
 use fields::CPart;
 use fields::CRan;
 
@@ -51,4 +52,12 @@ pub extern "C" fn relcalc_chain(
     ensures { λ r. ⌜ ChainAnswers (now (facts .entry)) (now (name .entry)) (now (first .entry)) (now (second .entry)) (now (buffer .entry)) r (now (buffer .exit)) ⌝ }
 {
     fields::chained_fields(chain::chain(facts, name, first, second, buffer))
+}
+
+// Joins two fact texts into the lent output; on refusal it stays.
+#[no_mangle]
+pub extern "C" fn relcalc_join<'a>(first: &'a [u8], second: &'a [u8], output: &mut [u8]) -> CJoined
+    ensures { λ r. ⌜ JoinAnswers (now (first .entry)) (now (second .entry)) (now (output .entry)) r (now (output .exit)) ⌝ }
+{
+    fields::joined_fields(join::join(first, second, output))
 }

@@ -40,7 +40,7 @@ use Rattle.universe.proofs.LeftStrings.{left-strings-shown, left-string
 use Rattle.universe.proofs.FirstParts.{part-in, quotes, Small, enter-all-small, part-enter-all, part-at, quotes-enter-all, quotes-at}
 use Rattle.universe.proofs.ElementParts.{Short, elements-in, all-short, words-in, words-small, first-in-facts, quoted-in-facts, strings-small, quoted-in-query, first-in-query}
 
-texts-at : (facts query : Text) (ws : List ℕ) (n : ℕ) → n < length ws → getD (texts-of facts query ws) n [] ≡ text-of facts query (getD ws n 0)
+pub texts-at : (facts query : Text) (ws : List ℕ) (n : ℕ) → n < length ws → getD (texts-of facts query ws) n [] ≡ text-of facts query (getD ws n 0)
 texts-at facts query [] n h = absurd (omega arith)
 texts-at facts query (w ∷ ws) zero h = refl
 texts-at facts query (w ∷ ws) (suc n) h = texts-at facts query ws n (omega arith)

@@ -49,6 +49,15 @@ pub struct Chained {
     pub count: u64,
 }
 
+#[repr(C)]
+#[derive(Clone, Copy, Debug, Default, PartialEq)]
+pub struct Joined {
+    pub refusal: u64,
+    pub place: u64,
+    pub text: u64,
+    pub length: u64,
+}
+
 mod calls {
     use super::*;
 
@@ -78,6 +87,14 @@ mod calls {
             buffer: *mut u8,
             buffer_len: usize,
         ) -> Chained;
+        pub fn relcalc_join(
+            first: *const u8,
+            first_len: usize,
+            second: *const u8,
+            second_len: usize,
+            output: *mut u8,
+            output_len: usize,
+        ) -> Joined;
     }
 }
 
@@ -125,4 +142,9 @@ pub fn chain(facts: &[u8], name: &[u8], first: &[u8], second: &[u8], buffer: &mu
             room,
         )
     }
+}
+
+pub fn join(first: &[u8], second: &[u8], output: &mut [u8]) -> Joined {
+    let room = output.len();
+    unsafe { calls::relcalc_join(first.as_ptr(), first.len(), second.as_ptr(), second.len(), output.as_mut_ptr(), room) }
 }

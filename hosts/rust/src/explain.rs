@@ -1,6 +1,6 @@
 //! A refusal in words: the text, the line and column, what stands there and the rule that it breaks.
 use crate::pattern::{first_fault, Fault};
-use crate::{check, Refusal, Refused, Text};
+use crate::{check, Refusal, Refused, RefusedJoin, Text};
 use std::fmt;
 
 /// Bytes of a line that are shown before and after the place; a string that begins there is shown whole.
@@ -10,11 +10,11 @@ const AFTER: usize = 40;
 #[derive(Clone, Debug, PartialEq, Eq)]
 pub struct Explained {
     pub refused: Refused,
-    /// none where the place is no place in a text (14 to 17)
+    /// none where the place is no place in a text (14 to 17, 21)
     pub at: Option<At>,
     /// the rule that is broken
     pub rule: &'static str,
-    /// what is wrong with a refused pattern or number, where that can be told; the caret is then shown under its byte
+    /// what is wrong with a refused pattern, number or arity, where that can be told; the caret is then shown under its byte
     pub fault: Option<Fault>,
 }
 
@@ -53,6 +53,17 @@ fn rule(refusal: Refusal) -> &'static str {
         Refusal::NoChain => "no chain exists",
         Refusal::Pattern => "a pattern is one or more branches parted by |, each one or more pieces: ^, $, or a character, ., set or group with at most one repeat sign *, +, ? or {m,n}",
         Refusal::Number => "a sum has at most 8 summands, each a count #(e) or a number, and a number is at most 999,999",
+        Refusal::FirstArity => "a relation of both texts has as many elements in the second as in the first",
+        Refusal::ResultTooLong => "a joined text has at most 32,768 bytes, and no more than the output",
+    }
+}
+
+/// The rule that a text of a join breaks.
+fn join_rule(refusal: Refusal) -> &'static str {
+    match refusal {
+        Refusal::TooManyRelations => "both texts together have at most 16 relations",
+        Refusal::TooManyElements => "both texts together have at most 64 elements",
+        _ => rule(refusal),
     }
 }
 
@@ -116,8 +127,8 @@ fn at(refused: &Refused, which: Text, text: &[u8]) -> At {
     let seen = place.min(end);
     let length = match (refused.refusal, which) {
         (Refusal::FactsTooLong | Refusal::FactByte | Refusal::QueryTooLong, _) => 1,
-        (_, Text::Facts) => word(&text[seen..end]),
         (_, Text::Query) => token(&text[seen..end]),
+        (_, Text::Facts | Text::First | Text::Second) => word(&text[seen..end]),
     };
     // a 13 before the place, as rows 1 and 8 can have it, is not shown
     let from = behind(&text[..seen], start.max(seen.saturating_sub(BEFORE)), |b| b == 13);
@@ -158,6 +169,26 @@ pub fn explain(refused: Refused, facts: &[u8], query: &[u8]) -> Explained {
     Explained { refused, at, rule: rule(refused.refusal), fault }
 }
 
+/// What the first text gives a relation that the second has with another arity.
+fn arity_fault(first: &[u8], name: &[u8]) -> Option<Fault> {
+    let reasons =
+        ["one with none in the first", "one with 1 in the first", "one with 2 in the first", "one with 3 in the first"];
+    let query = b"PRINT ENDL;";
+    let relations = check(first, query).ok()?.relations;
+    let relation = relations.iter().find(|r| r.name.of(first, query) == name)?;
+    Some(Fault { offset: 0, reason: reasons.get(relation.arity)? })
+}
+
+/// Where and why a text of a join was refused.
+pub fn explain_join(refused: RefusedJoin, first: &[u8], second: &[u8]) -> Explained {
+    let RefusedJoin { refusal, place, text } = refused;
+    let refused = Refused { refusal, place };
+    let at = text.map(|t| at(&refused, t, if t == Text::First { first } else { second }));
+    let clash = at.as_ref().filter(|_| refusal == Refusal::FirstArity);
+    let fault = clash.and_then(|a| arity_fault(first, &a.found));
+    Explained { refused, at, rule: join_rule(refusal), fault }
+}
+
 /// A text's bytes for the eye, one character each.
 fn plain(text: &[u8]) -> String {
     text.iter().map(|&b| if (32..127).contains(&b) { b as char } else if b == 9 { ' ' } else { '?' }).collect()
@@ -178,8 +209,7 @@ impl fmt::Display for Explained {
         let Some(at) = &self.at else {
             return write!(f, "refused {number} ({}): {}", self.refused.place, self.rule);
         };
-        let name = if at.text == Text::Facts { "facts" } else { "query" };
-        write!(f, "{name}:{}:{}: refused {number} at {}: {}", at.line, at.column, named(&at.found), self.rule)?;
+        write!(f, "{}:{}:{}: refused {number} at {}: {}", at.text, at.line, at.column, named(&at.found), self.rule)?;
         let mut caret = at.caret;
         if let Some(fault) = self.fault {
             write!(f, "; here {}", fault.reason)?;

@@ -14,8 +14,9 @@ pub mod c;
 mod explain;
 mod pattern;
 
-pub use explain::{explain, At, Explained};
+pub use explain::{explain, explain_join, At, Explained};
 pub use pattern::Fault;
+use std::fmt;
 
 /// Words of store that are enough for every accepted pair of texts.
 pub const STORE_WORDS: usize = 70_656;
@@ -23,6 +24,8 @@ pub const STORE_WORDS: usize = 70_656;
 pub const RELATIONS: usize = 16;
 /// Bytes that a chain needs at least, and that are enough for each.
 pub const CHAIN_BYTES: usize = 65;
+/// Bytes that facts may have, and that are enough for all that a join writes.
+pub const FACTS_BYTES: usize = 32_768;
 
 /// Why a call refuses, by the numbers of documents 01 and 02.
 #[derive(Clone, Copy, Debug, PartialEq, Eq)]
@@ -46,10 +49,12 @@ pub enum Refusal {
     NoChain,
     Pattern,
     Number,
+    FirstArity,
+    ResultTooLong,
 }
 
 impl Refusal {
-    const ALL: [Refusal; 19] = [
+    const ALL: [Refusal; 21] = [
         Refusal::FactsTooLong,
         Refusal::FactByte,
         Refusal::FactName,
@@ -69,6 +74,8 @@ impl Refusal {
         Refusal::NoChain,
         Refusal::Pattern,
         Refusal::Number,
+        Refusal::FirstArity,
+        Refusal::ResultTooLong,
     ];
 
     /// The documents' number.
@@ -91,13 +98,36 @@ fn accepted(number: u64, place: u64) -> Result<(), Refused> {
     }
 }
 
+/// A refusal of `join` and its place: an offset in the text that is refused, or the length needed where that is neither.
+#[derive(Clone, Copy, Debug, PartialEq, Eq)]
+pub struct RefusedJoin {
+    pub refusal: Refusal,
+    pub place: usize,
+    /// `Text::First` or `Text::Second`
+    pub text: Option<Text>,
+}
+
+/// Which text: the facts or the query, or one of the two that are joined.
 #[derive(Clone, Copy, Debug, PartialEq, Eq)]
 pub enum Text {
     Facts,
     Query,
+    First,
+    Second,
 }
 
-/// A part of one of the two texts.
+impl fmt::Display for Text {
+    fn fmt(&self, f: &mut fmt::Formatter) -> fmt::Result {
+        f.write_str(match self {
+            Text::Facts => "facts",
+            Text::Query => "query",
+            Text::First => "first text",
+            Text::Second => "second text",
+        })
+    }
+}
+
+/// A part of the facts or of the query.
 #[derive(Clone, Copy, Debug, PartialEq, Eq)]
 pub struct Part {
     pub text: Text,
@@ -207,4 +237,24 @@ pub fn chain_texts<'a>(facts: &'a [u8], name: &[u8], first: &[u8], second: &[u8]
     let query = b"PRINT ENDL;";
     let part = |&n: &u8| element(facts, query, n.into()).expect("a chain's elements stand in the facts");
     Ok(numbers[..count].iter().map(|n| part(n).of(facts, query)).collect())
+}
+
+/// The facts of two texts as one text: relations in byte order of name, tuples ascending, each once, an element in quotes if either text
+/// quoted it. Read as facts it has the tuples of both, relation by relation.
+///
+/// ```
+/// let joined = relcalc::join(b"On C10 C5\nHeld B7\n", b"Rated \"B7\" AA\r\nHeld B7\r\n").unwrap();
+/// assert_eq!(joined, b"Held \"B7\"\nOn C10 C5\nRated \"B7\" AA\n");
+/// ```
+pub fn join(first: &[u8], second: &[u8]) -> Result<Vec<u8>, RefusedJoin> {
+    let mut output = vec![0; FACTS_BYTES];
+    let a = c::join(first, second, &mut output);
+    let text = match a.text {
+        1 => Some(Text::First),
+        2 => Some(Text::Second),
+        _ => None,
+    };
+    accepted(a.refusal, a.place).map_err(|Refused { refusal, place }| RefusedJoin { refusal, place, text })?;
+    output.truncate(a.length as usize);
+    Ok(output)
 }

@@ -1,8 +1,8 @@
 //! What is wrong with a pattern that was refused: its first fault, for the words of `explain`. The engine alone decides whether a
 //! pattern is malformed.
 
-/// What is wrong, and at which byte of the pattern, from 0; its length where something is lacking at its end. With a refused number it
-/// is the token's first byte.
+/// What is wrong, and at which byte of the pattern, from 0; its length where something is lacking at its end. With a refused number or
+/// arity it is the first byte of what was refused.
 #[derive(Clone, Copy, Debug, PartialEq, Eq)]
 pub struct Fault {
     pub offset: usize,

@@ -1,7 +1,7 @@
 //! The wrapper over the archive: the worked example, facts saved with CR LF, patterns, printed quotes, counts of tuples, sums and ratios,
-//! first chains, refusals, empty and equal texts, largest sizes.
-use relcalc::{c, chain, chain_texts, check, element, explain, run};
-use relcalc::{Ending, Explained, Fault, Refusal, Refused, Text, CHAIN_BYTES, RELATIONS, STORE_WORDS};
+//! first chains, joined texts, refusals, empty and equal texts, largest sizes.
+use relcalc::{c, chain, chain_texts, check, element, explain, explain_join, join, run};
+use relcalc::{Ending, Explained, Fault, Refusal, Refused, RefusedJoin, Text, CHAIN_BYTES, FACTS_BYTES, RELATIONS, STORE_WORDS};
 
 const FACTS: &[u8] = b"On C10 C5\nOn C5 C2\nOn B7 C10\nHeld B7\n";
 const FACTS_CR_LF: &[u8] = b"On C10 C5\r\nOn C5 C2\r\nOn B7 C10\r\nHeld B7\r\n";
@@ -312,6 +312,7 @@ fn no_counts_of_refusals() {
 #[test]
 fn sizes_of_the_structs() {
     assert_eq!((size_of::<c::Record>(), size_of::<c::Checked>(), size_of::<c::Ran>()), (6 * 8, (5 + 6 * 16) * 8, (5 + 16) * 8));
+    assert_eq!((size_of::<c::Chained>(), size_of::<c::Joined>()), (3 * 8, 4 * 8));
 }
 
 #[test]
@@ -464,6 +465,234 @@ fn refused_chains() {
     assert_eq!(ask(b"R a b\n", b"a", b"c", 0), Err(refused(Refusal::NotInFacts, 0)));
     assert_eq!(ask(b"R a\nR a b\n", b"x", b"y", 0), Err(refused(Refusal::Arity, 8)));
     assert_eq!(buffer, [9; CHAIN_BYTES]);
+}
+
+/// What is written for two texts in either order, and for it and itself: these lines. The output's other bytes stay, and all of them
+/// where it is one byte short.
+fn joins(first: &str, second: &str, lines: &str) {
+    let (first, second, lines) = (first.as_bytes(), second.as_bytes(), lines.as_bytes());
+    for (a, b) in [(first, second), (second, first), (lines, lines)] {
+        assert_eq!(join(a, b).as_deref(), Ok(lines), "{}", String::from_utf8_lossy(lines));
+    }
+    for room in [lines.len(), lines.len() + 9] {
+        let mut output = vec![7; room];
+        assert_eq!(c::join(first, second, &mut output), c::Joined { length: lines.len() as u64, ..Default::default() });
+        assert!(output.starts_with(lines) && output[lines.len()..].iter().all(|&b| b == 7));
+    }
+    if let Some(short) = lines.len().checked_sub(1) {
+        let mut output = vec![7; short];
+        assert_eq!(c::join(first, second, &mut output), c::Joined { refusal: 21, place: lines.len() as u64, ..Default::default() });
+        assert!(output.iter().all(|&b| b == 7));
+    }
+}
+
+#[test]
+fn joined_texts() {
+    let rates = std::str::from_utf8(FACTS).unwrap();
+    let rows = [
+        ("R a\nR b\n", "R b\nR c\n", "R a\nR b\nR c\n"),
+        (rates, "Rated B7 AA\r\nHeld C5\r\n", "Held B7\nHeld C5\nOn B7 C10\nOn C10 C5\nOn C5 C2\nRated B7 AA\n"),
+        ("b x\nA x\n_a x\nA2 x\n", "A1 x\nA10 x\nA x\nB x\n", "A x\nA1 x\nA10 x\nA2 x\nB x\n_a x\nb x\n"),
+        ("R m\n", "R z\nR a\n", "R a\nR m\nR z\n"),
+        ("R b a\nR a c\n", "R a b\nR aa a\nR C2 z\nR C10 z\n", "R C10 z\nR C2 z\nR a b\nR a c\nR aa a\nR b a\n"),
+        ("T b a a\nT a b c\n", "T a b a\nT a a z\n", "T a a z\nT a b a\nT a b c\nT b a a\n"),
+        ("P\n", "P \nQ", "P\nQ\n"),
+        ("R a\nR a\n", "S b\nS b\nS  b\n", "R a\nS b\n"),
+        ("R  a\t\tb \t\n", "R\tc d", "R a b\nR c d\n"),
+        ("# one\n\n \t\nR a\n", "\n#\nR b\n#", "R a\nR b\n"),
+        ("R a\n.\n", "R b\n", "R a\nR b\n"),
+        ("R a\r\nR b\r", "R c\nR b\r\n", "R a\nR b\nR c\n"),
+        ("\r\n \r\nR a\r\n", "\r", "R a\n"),
+        ("", "S b\nR a", "R a\nS b\n"),
+        ("# a\n\n", ".\nR a\n", ""),
+        ("", "", ""),
+        (rates, rates, "Held B7\nOn B7 C10\nOn C10 C5\nOn C5 C2\n"),
+        (rates, &rates[10..], "Held B7\nOn B7 C10\nOn C10 C5\nOn C5 C2\n"),
+    ];
+    for (first, second, lines) in rows {
+        joins(first, second, lines);
+    }
+}
+
+#[test]
+fn joined_quotes() {
+    joins("S a\nT a b\n", "R \"a\"\n", "R \"a\"\nS \"a\"\nT \"a\" b\n");
+    joins("R a\n", "R \"a\"\n", "R \"a\"\n");
+    joins("R a\nR \"a\"\n", "", "R \"a\"\n");
+    joins("R \"a\"\n", "R B\n", "R B\nR \"a\"\n");
+    joins("R !\n", "R \"\"\n", "R \"\"\nR !\n");
+    joins("Held \"5Y off the run\"\n", "Held \"\t\"\nHeld \"\"\n", "Held \"\"\nHeld \"\t\"\nHeld \"5Y off the run\"\n");
+    joins("R a\n.\nR \"a\"\n", "# \"a\"\nS a\n. R \"a\"", "R a\nS a\n");
+}
+
+fn refused_join(refusal: Refusal, place: usize, text: Text) -> RefusedJoin {
+    RefusedJoin { refusal, place, text: Some(text) }
+}
+
+/// Two texts of which one is refused; the output's bytes stay, and the refusal does not depend on their number.
+fn unjoined(first: &str, second: &str, due: RefusedJoin) {
+    let (first, second) = (first.as_bytes(), second.as_bytes());
+    assert_eq!(join(first, second), Err(due));
+    let text = if due.text == Some(Text::First) { 1 } else { 2 };
+    for room in [0, 99] {
+        let mut output = vec![7; room];
+        let answer = c::Joined { refusal: due.refusal.number(), place: due.place as u64, text, length: 0 };
+        assert_eq!(c::join(first, second, &mut output), answer);
+        assert!(output.iter().all(|&b| b == 7));
+    }
+}
+
+#[test]
+fn refused_joins() {
+    use Refusal::*;
+    use Text::{First, Second};
+    let hashes = "#".repeat(32_769);
+    let rows = [
+        ("R a\nR b\rc\n", "S \"\n", FactByte, 7, First),
+        ("R a\n", "R b\rc\n", FactByte, 3, Second),
+        ("TRUE a\n", "9\n", FactName, 0, First),
+        ("R a\n", "R a\n R b\n", FactName, 4, Second),
+        ("R a\nR \"b\n", "R a\n", FactElement, 6, First),
+        ("R a\n", "R a\nR \"b\n", FactElement, 6, Second),
+        ("S a b c d\n", "R a\n", Arity, 8, First),
+        ("R a\n", "S a b c d\n", Arity, 8, Second),
+        ("R a b\nR c\n", "", Arity, 8, First),
+        ("R a b\nR c\n", "R a b c\n", Arity, 8, First),
+        ("S a\n", "R a\nR b \"c\"\n", Arity, 8, Second),
+        ("S a\n", "R a\nR\n", Arity, 4, Second),
+        // 20 where the first text has the relation, at the name
+        ("R a b\n", "R a b\nR a\n", FirstArity, 6, Second),
+        ("R\n", "R a\n", FirstArity, 0, Second),
+        ("R a\n", "S x\nR\n", FirstArity, 4, Second),
+        ("R a\n", "R a b\n9\n", FirstArity, 0, Second),
+        ("R a\n.\nR a b\n", "R b c\n", FirstArity, 0, Second),
+        ("R a\n", "R a b c d\n", Arity, 8, Second),
+        ("R a\n", "R a b\"c\n", FactElement, 4, Second),
+        ("R a\n", "R a b\n#\x7F\n", FactByte, 7, Second),
+        (&hashes, "9\n", FactsTooLong, 32_768, First),
+        ("R a\n", &hashes, FactsTooLong, 32_768, Second),
+        ("9\n", &hashes, FactName, 0, First),
+    ];
+    for (first, second, refusal, place, text) in rows {
+        unjoined(first, second, refused_join(refusal, place, text));
+    }
+    assert_eq!(join(&[b'#'; FACTS_BYTES], &[b'#'; FACTS_BYTES]), Ok(vec![]));
+}
+
+/// 6 and 7 count those of both texts.
+#[test]
+fn joined_limits() {
+    use Refusal::{FirstArity, TooManyElements, TooManyRelations};
+    use Text::{First, Second};
+    let names = |numbers: std::ops::Range<usize>| numbers.map(|i| format!("N{i:02}\n")).collect::<String>();
+    let elements = |count: usize| (0..count).map(|i| format!("E e{i:02}\n")).collect::<String>();
+    unjoined(&names(0..16), "# a\nN00\nM\n", refused_join(TooManyRelations, 8, Second));
+    joins(&names(0..16), "N15\nN00\n", &names(0..16));
+    joins(&names(0..10), &names(10..16), &names(0..16));
+    unjoined(&names(0..10), &names(10..17), refused_join(TooManyRelations, 24, Second));
+    unjoined(&names(10..17), &names(0..10), refused_join(TooManyRelations, 36, Second));
+    unjoined(&names(0..17), "9\n", refused_join(TooManyRelations, 64, First));
+    joins(&elements(64), "E e63\n", &elements(64));
+    unjoined(&elements(64), "F e00 new\n", refused_join(TooManyElements, 6, Second));
+    unjoined(&elements(64), "F \"new\"\nE new one\n", refused_join(TooManyElements, 2, Second));
+    unjoined(&elements(64), "E new one\n", refused_join(FirstArity, 0, Second));
+    unjoined(&(elements(64) + &names(0..15)), "M new\n", refused_join(TooManyRelations, 0, Second));
+    unjoined(&elements(65), "9\n", refused_join(TooManyElements, 386, First));
+    unjoined(&elements(63), "F x x y\n", refused_join(TooManyElements, 6, Second));
+    joins(&elements(63), "F x x\n", &(elements(63) + "F x x\n"));
+}
+
+/// The first pairs over 64 elements of one byte: six bytes a line.
+fn pairs(name: &str, count: usize) -> Vec<String> {
+    let byte = |i: usize| (b'0' + i as u8) as char;
+    (0..count).map(|i| format!("{name} {} {}\n", byte(i / 64), byte(i % 64))).collect()
+}
+
+#[test]
+fn longest_joins() {
+    let lines = [pairs("R", 4096), pairs("S", 1365)].concat();
+    let others = [pairs("P", 4096), pairs("Q", 1365)].concat().concat();
+    let falling: String = lines.iter().rev().map(|line| &line[..]).collect();
+    let lines = lines.concat();
+    joins(&falling, &lines, &lines);
+    joins(&falling, "P", &format!("P\n{lines}"));
+    let too_long = |first: &str, second: &str, needed| {
+        let due = RefusedJoin { refusal: Refusal::ResultTooLong, place: needed, text: None };
+        assert_eq!(join(first.as_bytes(), second.as_bytes()), Err(due));
+        // a longer output is of no use
+        let mut output = vec![7; 70_000];
+        let answer = c::join(first.as_bytes(), second.as_bytes(), &mut output);
+        assert_eq!(answer, c::Joined { refusal: 21, place: needed as u64, text: 0, length: 0 });
+        assert!(output.iter().all(|&b| b == 7));
+    };
+    too_long(&falling, &others, 2 * 32_766);
+    too_long(&falling, "Pq", 32_769);
+    too_long(&format!("{falling}Pq"), "", 32_769);
+    // the element 0 stands 128 times in R, 86 times in S and once in P
+    too_long(&falling, "P \"0\"\n", 32_766 + 2 * (128 + 86) + 6);
+}
+
+/// What is joined has the relations, counts and pages of both texts, and nothing else.
+#[test]
+fn joined_texts_read_back() {
+    let (first, second) = ("On C10 C5\nHeld B7\nHeld C5\nP\n", "Held \"B7\"\r\nOn C2 \"5Y off the run\"\r\nRated B7 AA\r\n");
+    let joined = String::from_utf8(join(first.as_bytes(), second.as_bytes()).unwrap()).unwrap();
+    assert_eq!(joined, "Held \"B7\"\nHeld C5\nOn C10 C5\nOn C2 \"5Y off the run\"\nP\nRated \"B7\" AA\n");
+    assert_eq!(loaded(&joined, "PRINT ENDL;"), [2, 2, 1, 1]);
+    let query = b"PRINT [\"Held\"] Held(x), [\"On\"] On(x,y), [\"P\"] P(), [\"Rated\"] Rated(x,y);";
+    let (mut store, mut output) = (vec![0; STORE_WORDS], vec![0; joined.len()]);
+    let ran = run(joined.as_bytes(), query, 1, &mut store, &mut output).unwrap();
+    assert_eq!((ran.ending, ran.written, &output[..]), (Ending::Done, joined.len(), joined.as_bytes()));
+}
+
+/// The explanation of why two texts are not joined.
+fn told_join(first: &[u8], second: &[u8]) -> Explained {
+    explain_join(join(first, second).unwrap_err(), first, second)
+}
+
+#[test]
+fn words_on_refused_joins() {
+    let e = told_join(FACTS, b"Rated B7 AA\r\nOn C5\r\n");
+    let at = e.at.clone().unwrap();
+    assert_eq!((e.refused, at.text, at.line, at.column), (refused(Refusal::FirstArity, 13), Text::Second, 2, 1));
+    assert_eq!((&at.found[..], e.fault), (&b"On"[..], Some(Fault { offset: 0, reason: "one with 2 in the first" })));
+    let rule = "a relation of both texts has as many elements in the second as in the first; here one with 2 in the first";
+    assert_eq!(e.to_string(), format!("second text:2:1: refused 20 at `On`: {rule}\n  On C5\n  ^"));
+    for (first, second, fault) in [("R\n", "R a\n", "none"), ("R a\n", "R\n", "1"), ("R a b c\n", "R a\n", "3")] {
+        let e = told_join(first.as_bytes(), second.as_bytes()).to_string();
+        assert!(e.contains(&format!("; here one with {fault} in the first\n")), "{e}");
+    }
+    let e = told_join(b"Held B7\nHeld \"C 5\" C2\n", FACTS).to_string();
+    assert!(e.starts_with("first text:2:12: refused 5 at `C2`: a relation has 0 to 3 elements"), "{e}");
+    assert!(e.ends_with("\n  Held \"C 5\" C2\n             ^"), "{e}");
+    let e = told_join(FACTS, b"Rated a\nRated b c\n").to_string();
+    assert!(e.starts_with("second text:2:9: refused 5 at `c`: "), "{e}");
+    let e = told_join(FACTS, b"# a\nOn C10\r C2\r\n").to_string();
+    assert!(e.starts_with("second text:2:7: refused 2 at byte 13: ") && e.ends_with("\n  On C10? C2\n        ^"), "{e}");
+    let names: String = (0..16).map(|i| format!("N{i}\n")).collect();
+    let e = told_join(names.as_bytes(), b"N0\nM\n").to_string();
+    assert!(e.starts_with("second text:2:1: refused 6 at `M`: both texts together have at most 16 relations\n"), "{e}");
+    let elements: String = (0..65).map(|i| format!("E {i}\n")).collect();
+    let e = told_join(elements.as_bytes(), b"").to_string();
+    assert!(e.starts_with("first text:65:3: refused 7 at `64`: both texts together have at most 64 elements\n"), "{e}");
+    let e = explain_join(RefusedJoin { refusal: Refusal::ResultTooLong, place: 32_769, text: None }, FACTS, FACTS);
+    assert_eq!((&e.at, e.to_string().starts_with("refused 21 (32769): a joined text has at most 32,768 bytes")), (&None, true));
+    assert_eq!(explain(refused(Refusal::FirstArity, 0), FACTS, QUERY).at, None);
+}
+
+#[test]
+fn words_on_any_joined_text_and_place() {
+    use Refusal::*;
+    let rows = [FactsTooLong, FactByte, FactName, FactElement, Arity, TooManyRelations, TooManyElements, FirstArity, ResultTooLong];
+    let texts: [&[u8]; 6] = [b"", b"\r", b"\n\r\n", b"a\r\nb\r", b"\"\r\n\"", b"\r\r\n"];
+    for (row, text, place) in rows.iter().flat_map(|r| texts.map(|t| (0..=t.len() + 1).map(move |p| (*r, t, p)))).flatten() {
+        for which in [Text::First, Text::Second] {
+            let e = explain_join(refused_join(row, place, which), text, text);
+            let at = e.at.clone().unwrap();
+            assert_eq!((at.text, at.found.is_empty()), (which, place >= text.len()), "{e}");
+            assert!(at.caret <= at.shown.len() && !at.shown.contains(&10) && !at.shown[..at.caret].contains(&13), "{e}");
+        }
+    }
 }
 
 #[test]

@@ -8,7 +8,7 @@ use std::fmt;
 
 pub type Difference = Result<(), String>;
 
-/// How often each refusal, each ending, each way in which counts change, each kind of relation read back and each kind of chain was met.
+/// How often each refusal, each ending, each way in which counts change, each kind of relation read back, of chain and of join was met.
 #[derive(Default)]
 pub struct Met(BTreeMap<String, usize>);
 
@@ -27,9 +27,34 @@ const CHAINS: [&str; 11] = [
     "none between equal ends",
 ];
 
+/// What matters where two texts are joined, or refused for more than a row of one text.
+const JOINS: [&str; 18] = [
+    "written",
+    "nothing to write",
+    "a tuple of both",
+    "in quotes for the first",
+    "in quotes for the second",
+    "not the order of the lines' bytes",
+    "longer than both texts",
+    "16 relations of both",
+    "64 elements of both",
+    "32,768 bytes",
+    "6 for both together",
+    "7 for both together",
+    "20",
+    "20 with a second text that is right by itself",
+    "20 where the second gave the first's arity before",
+    "21 by the output",
+    "21 by 32,768",
+    "21 by both",
+];
+
 impl Met {
     pub fn add(&mut self, what: String) {
         *self.0.entry(what).or_default() += 1;
+    }
+    pub fn add_all(&mut self, other: Met) {
+        other.0.into_iter().for_each(|(what, times)| *self.0.entry(what).or_default() += times);
     }
     fn refused(&mut self, call: &str, r: &Refusal) {
         self.add(format!("{call} {:2}", r.0));
@@ -46,7 +71,9 @@ impl Met {
         let pages = ["page of 32767", "page of 32768", "elements in quotes for their texts alone"].map(|what| format!("read back: {what}"));
         let left = ["page too long", "query at its limit", "run not done"].map(|why| format!("not read back: {why}"));
         let chains = CHAINS.map(|kind| format!("chain: {kind}")).into_iter();
-        let due = check.chain(run).chain(chain).chain(endings).chain(counts).chain(tuples).chain(pages).chain(left).chain(chains);
+        let rows = [1, 2].into_iter().flat_map(|text| (1..=7).map(move |row| format!("join: {row} of text {text}")));
+        let joins = JOINS.map(|kind| format!("join: {kind}")).into_iter().chain(rows);
+        let due = check.chain(run).chain(chain).chain(endings).chain(counts).chain(tuples).chain(pages).chain(left).chain(chains).chain(joins);
         let never: Vec<String> = due.filter(|w| !self.0.contains_key(w)).collect();
         if never.is_empty() { Ok(()) } else { Err(format!("never met: {}", never.join(", "))) }
     }
@@ -59,12 +86,12 @@ impl fmt::Display for Met {
     }
 }
 
-fn same<T: PartialEq + fmt::Debug>(what: &str, archive: T, evaluator: T) -> Difference {
+pub fn same<T: PartialEq + fmt::Debug>(what: &str, archive: T, evaluator: T) -> Difference {
     if archive == evaluator { Ok(()) } else { Err(format!("{what}: archive {archive:?}, evaluator {evaluator:?}")) }
 }
 
 /// Two stretches of memory, by their first difference.
-fn same_memory<T: PartialEq + fmt::Debug>(what: &str, archive: &[T], evaluator: &[T]) -> Difference {
+pub fn same_memory<T: PartialEq + fmt::Debug>(what: &str, archive: &[T], evaluator: &[T]) -> Difference {
     match archive.iter().zip(evaluator).position(|(a, b)| a != b) {
         None => Ok(()),
         Some(i) => same(&format!("{what} {i}"), &archive[i], &evaluator[i]),
@@ -75,7 +102,7 @@ fn same_memory<T: PartialEq + fmt::Debug>(what: &str, archive: &[T], evaluator: 
 fn pattern(n: usize) -> Vec<u64> {
     (1..=n as u64).map(|i| i.wrapping_mul(0x9E37_79B9_7F4A_7C15)).collect()
 }
-fn byte_pattern(n: usize) -> Vec<u8> {
+pub fn byte_pattern(n: usize) -> Vec<u8> {
     (0..n).map(|i| (i % 251) as u8 + 3).collect()
 }
 

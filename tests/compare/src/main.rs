@@ -1,16 +1,20 @@
-//! Compares the archive with the evaluator, byte for byte: the check, runs, all elements and chains, over generated texts and over the
-//! cases; relations are also printed and read back, their tuples counted, and chains held to every other for their question. The last
-//! line is `N passed, M failed`, a text or case each.
+//! Compares the archive with the evaluator, byte for byte: the check, runs, all elements, chains and joins, over generated texts and over
+//! the cases; relations are also printed and read back, their tuples counted, chains held to every other for their question, and joins to
+//! what their texts read as. The last line is `N passed, M failed`, a text, join or case each.
 mod calls;
+mod joins;
 mod properties;
 
 use calls::{chain_differs, check_differs, elements_differ, run_differs, Difference, Met};
-use evaluator::cases::{chain_agrees, check_agrees, element_agrees, holds, run_agrees};
+use evaluator::cases::{chain_agrees, check_agrees, element_agrees, holds, join_agrees, run_agrees};
 use evaluator::generate::{texts, Chain, Texts};
 use evaluator::json::{read, Json};
 use evaluator::run::Ending;
+use evaluator::two_files::{self, Join};
 use evaluator::{accept, either_way, Accepted, Refusal};
+use joins::join_differs;
 use properties::{counted_differs, read_back_differs};
+use std::thread;
 
 /// Differences that are shown whole.
 const SHOWN: usize = 10;
@@ -105,6 +109,12 @@ fn chain_case_differs(c: &Json, met: &mut Met) -> Difference {
     chain_differs(&bytes("facts"), &chain, met)
 }
 
+fn join_case_differs(c: &Json, met: &mut Met) -> Difference {
+    agrees(join_agrees(c))?;
+    let call = Join { first: c.get("first").bytes(), second: c.get("second").bytes(), room: c.get("outlen").number() as usize };
+    join_differs(&call, met)
+}
+
 fn cases(path: &str, counts: &mut Counts, met: &mut Met) {
     let all = read(&std::fs::read_to_string(path).expect("a file of cases"));
     let of = |key: &str| all.get(key).list().iter().filter(|c| holds(c));
@@ -112,6 +122,7 @@ fn cases(path: &str, counts: &mut Counts, met: &mut Met) {
     of("cases").for_each(|c| counts.add(&name(c), case_differs(c, met)));
     of("elements").for_each(|c| counts.add(&name(c), element_case_differs(c)));
     of("chains").for_each(|c| counts.add(&name(c), chain_case_differs(c, met)));
+    of("joins").for_each(|c| counts.add(&name(c), join_case_differs(c, met)));
 }
 
 /// Those of document 01, and those of document 02's papers.
@@ -139,14 +150,48 @@ fn options() -> Options {
     found
 }
 
+/// A difference, with the two texts that it is met in.
+fn shown(found: Difference, [(one, first), (two, second)]: [(&str, &[u8]); 2]) -> Difference {
+    found.map_err(|d| format!("{d}\n  {one} {:?}\n  {two} {:?}", String::from_utf8_lossy(first), String::from_utf8_lossy(second)))
+}
+
+/// Enough for the deepest query, on both sides.
+const STACK: usize = 64 << 20;
+
+/// The texts, and the joins that go with them, of every `step`th number from `start` on.
+fn every(o: &Options, start: u64, step: u64) -> (Counts, Met) {
+    let (mut counts, mut met) = (Counts::default(), Met::default());
+    for number in (o.first + start..o.first + o.count).step_by(step as usize) {
+        let t = texts(number);
+        let found = text_differs(&t, &mut met);
+        counts.add(&format!("text {number}"), shown(found, [("facts", &t.facts), ("query", &t.query)]));
+        for j in two_files::calls(number) {
+            let found = join_differs(&j, &mut met);
+            counts.add(&format!("join of text {number}"), shown(found, [("first", &j.first), ("second", &j.second)]));
+        }
+    }
+    (counts, met)
+}
+
+/// All numbers, shared out over the cores.
+fn numbers(o: &Options, counts: &mut Counts, met: &mut Met) {
+    let cores = thread::available_parallelism().map_or(1, usize::from) as u64;
+    thread::scope(|s| {
+        let begin = |start| thread::Builder::new().stack_size(STACK).spawn_scoped(s, move || every(o, start, cores)).expect("a thread");
+        let begun: Vec<_> = (0..cores).map(begin).collect();
+        for part in begun {
+            let (more, new) = part.join().expect("a thread that ends");
+            counts.passed += more.passed;
+            counts.failed += more.failed;
+            met.add_all(new);
+        }
+    });
+}
+
 fn main() {
     let o = options();
     let (mut counts, mut met) = (Counts::default(), Met::default());
-    for number in o.first..o.first + o.count {
-        let t = texts(number);
-        let found = text_differs(&t, &mut met);
-        counts.add(&format!("text {number}"), found.map_err(|d| format!("{d}\n  facts {:?}\n  query {:?}", String::from_utf8_lossy(&t.facts), String::from_utf8_lossy(&t.query))));
-    }
+    numbers(&o, &mut counts, &mut met);
     o.cases.iter().for_each(|path| cases(path, &mut counts, &mut met));
     if o.first == 0 && o.count >= 20_000 {
         counts.add("texts", met.all());

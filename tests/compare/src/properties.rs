@@ -1,10 +1,12 @@
 //! What papers of document 02 promise of any calculator, through the archive: each relation that a run leaves, printed and read back
-//! (Paper 3), and the counts of runs, as many as the tables have tuples (Paper 4).
+//! (Paper 3), the counts of runs, as many as the tables have tuples (Paper 4), and two texts joined, which read as their union (Paper 7).
 use crate::calls::{counts, Difference, Met};
 use evaluator::calculator::{Answer, Calculator, Evaluator};
 use evaluator::generate::Texts;
+use evaluator::join::Told;
 use evaluator::run::Ending;
-use evaluator::{counted, read_back, Accepted, Checked, Refusal};
+use evaluator::two_files::Join;
+use evaluator::{counted, joined, read_back, Accepted, Checked, Refusal};
 use relcalc::c;
 
 struct Archive {
@@ -49,6 +51,13 @@ impl Calculator for Archive {
         };
         (0..count).map(text).collect()
     }
+    fn join(&self, first: &[u8], second: &[u8], room: usize) -> Result<Vec<u8>, Told> {
+        let mut output = vec![0; room];
+        let found = c::join(first, second, &mut output);
+        accepted(found.refusal, found.place).map_err(|r| (r, found.text as usize))?;
+        output.truncate(found.length as usize);
+        Ok(output)
+    }
 }
 
 pub fn read_back_differs(t: &Texts, accepted: &Result<Accepted, Refusal>, met: &mut Met) -> Difference {
@@ -66,4 +75,10 @@ pub fn counted_differs(t: &Texts, accepted: &Result<Accepted, Refusal>) -> Diffe
     }
     counted::relations(&Evaluator, t).map_err(of_evaluator)?;
     counted::relations(&Archive { elements: false }, t)
+}
+
+pub fn joined_differs(call: &Join, room: usize, met: &mut Met) -> Difference {
+    joined::of(&Evaluator, &call.first, &call.second, room).map_err(of_evaluator)?;
+    joined::of(&Archive { elements: false }, &call.first, &call.second, room)?.into_iter().for_each(|what| met.add(what));
+    Ok(())
 }

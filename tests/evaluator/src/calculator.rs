@@ -1,4 +1,5 @@
 //! What papers of document 02 promise as properties is said of any calculator: of the evaluator here, and of the archive.
+use crate::join::{join, Told};
 use crate::run::Ending;
 use crate::{accept, Checked, Counts, Ran, Refusal};
 
@@ -17,6 +18,8 @@ pub trait Calculator {
     fn answer(&self, facts: &[u8], query: &[u8], budget: u32, room: usize) -> Result<Answer, Refusal>;
     /// The texts of all elements by number, of which there are so many.
     fn elements(&self, facts: &[u8], query: &[u8], count: usize) -> Vec<Vec<u8>>;
+    /// What is written to an output of so many bytes.
+    fn join(&self, first: &[u8], second: &[u8], room: usize) -> Result<Vec<u8>, Told>;
 }
 
 pub struct Evaluator;
@@ -30,6 +33,9 @@ impl Calculator for Evaluator {
     }
     fn elements(&self, facts: &[u8], query: &[u8], _: usize) -> Vec<Vec<u8>> {
         accept(facts, query).map_or(Vec::new(), |w| w.universe)
+    }
+    fn join(&self, first: &[u8], second: &[u8], room: usize) -> Result<Vec<u8>, Told> {
+        join(first, second, room)
     }
 }
 

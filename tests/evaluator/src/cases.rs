@@ -1,10 +1,11 @@
 //! The evaluator held to a file of test cases.
+use crate::calculator::Evaluator;
 use crate::json::Json;
 use crate::run::Ending;
-use crate::{accept, chain, check, comes_first, element, run, Refusal};
+use crate::{accept, chain, check, comes_first, element, join, joined, run, Refusal};
 
 /// Papers 1 to this one of document 02 are in force.
-const PAPERS: u64 = 6;
+const PAPERS: u64 = 7;
 
 /// Whether a case holds now: one of document 02 says after which papers it does.
 pub fn holds(c: &Json) -> bool {
@@ -70,4 +71,14 @@ pub fn chain_agrees(c: &Json) -> bool {
             refusal(c).is_none() && found == want && comes_first::of_all(&q, &want).is_ok()
         }
     }
+}
+
+/// The case's texts are held to what Paper 7 says of every result, too.
+pub fn join_agrees(c: &Json) -> bool {
+    let (first, second, room) = (c.get("first").bytes(), c.get("second").bytes(), c.get("outlen").number() as usize);
+    let agrees = match join::join(&first, &second, room) {
+        Err((r, text)) => refusal(c) == Some(r) && c.get("text").number() as usize == text,
+        Ok(found) => refusal(c).is_none() && c.get("length").number() as usize == found.len() && c.get("output").bytes() == found,
+    };
+    agrees && joined::of(&Evaluator, &first, &second, room).is_ok()
 }

@@ -34,10 +34,12 @@ pub struct Element {
 
 pub struct Fact {
     pub name: Vec<u8>,
+    /// the line's first byte
+    pub at: usize,
     pub elements: Vec<Element>,
 }
 
-/// A relation with the first place of its name: text 0 is the facts, 1 the query.
+/// A relation with the first place of its name: text 0 is the facts, 1 the query or, in a join, the second text.
 #[derive(Clone)]
 pub struct Relation {
     pub name: Vec<u8>,
@@ -46,6 +48,7 @@ pub struct Relation {
     pub at: usize,
 }
 
+#[derive(Default)]
 pub struct Facts {
     pub facts: Vec<Fact>,
     pub relations: Vec<Relation>,
@@ -120,7 +123,8 @@ fn elements(line: &[u8], at: usize, mut i: usize) -> Result<Vec<Element>, Refusa
     }
 }
 
-pub fn read(text: &[u8]) -> Result<Facts, Refusal> {
+/// The lines that are read; rows 1 and 2.
+fn legal_lines(text: &[u8]) -> Result<Vec<(usize, &[u8])>, Refusal> {
     if text.len() > 32768 {
         return Err((1, 32768));
     }
@@ -130,30 +134,60 @@ pub fn read(text: &[u8]) -> Result<Facts, Refusal> {
             return Err((2, at + i));
         }
     }
-    let mut all = Facts { facts: Vec::new(), relations: Vec::new(), universe: BTreeSet::new() };
-    for (at, line) in lines {
-        if line.first() == Some(&b'#') || line.iter().all(|&b| is_blank(b)) {
-            continue;
+    Ok(lines)
+}
+
+fn is_skipped(line: &[u8]) -> bool {
+    line.first() == Some(&b'#') || line.iter().all(|&b| is_blank(b))
+}
+
+/// A line by itself; rows 3 and 4, and row 5 at a fourth element.
+fn fact(line: &[u8], at: usize) -> Result<Fact, Refusal> {
+    let end = line.iter().position(|&b| is_blank(b)).unwrap_or(line.len());
+    let name = line[..end].to_vec();
+    if !is_name(&name) {
+        return Err((3, at));
+    }
+    Ok(Fact { name, at, elements: elements(line, at, end)? })
+}
+
+impl Facts {
+    /// Another arity, which is row 20 where another text gave the first and else row 5; row 6.
+    fn enter_relation(&mut self, f: &Fact, text: usize) -> Result<(), Refusal> {
+        let (name, arity) = (&f.name, f.elements.len());
+        match self.relations.iter().find(|r| r.name == *name) {
+            Some(r) if r.arity == arity => {}
+            Some(r) if r.text != text => return Err((20, f.at)),
+            Some(_) => return Err((5, f.elements.last().map_or(f.at, |e| e.at))),
+            None if self.relations.len() == 16 => return Err((6, f.at)),
+            None => self.relations.push(Relation { name: name.clone(), arity, text, at: f.at }),
         }
-        let end = line.iter().position(|&b| is_blank(b)).unwrap_or(line.len());
-        let name = &line[..end];
-        if !is_name(name) {
-            return Err((3, at));
-        }
-        let elements = elements(line, at, end)?;
-        match all.relations.iter().find(|r| r.name == name) {
-            Some(r) if r.arity != elements.len() => return Err((5, elements.last().map_or(at, |e| e.at))),
-            Some(_) => {}
-            None if all.relations.len() == 16 => return Err((6, at)),
-            None => all.relations.push(Relation { name: name.to_vec(), arity: elements.len(), text: 0, at }),
-        }
-        for e in &elements {
-            all.universe.insert(e.value.clone());
-            if all.universe.len() > 64 {
+        Ok(())
+    }
+    /// Row 7.
+    fn enter_elements(&mut self, f: &Fact) -> Result<(), Refusal> {
+        for e in &f.elements {
+            self.universe.insert(e.value.clone());
+            if self.universe.len() > 64 {
                 return Err((7, e.at));
             }
         }
-        all.facts.push(Fact { name: name.to_vec(), elements });
+        Ok(())
     }
+    /// Reads a text, by its number, after those before it: the limits count what all of them have.
+    pub fn read_more(&mut self, text: &[u8], number: usize) -> Result<(), Refusal> {
+        for (at, line) in legal_lines(text)?.into_iter().filter(|(_, line)| !is_skipped(line)) {
+            let fact = fact(line, at)?;
+            self.enter_relation(&fact, number)?;
+            self.enter_elements(&fact)?;
+            self.facts.push(fact);
+        }
+        Ok(())
+    }
+}
+
+pub fn read(text: &[u8]) -> Result<Facts, Refusal> {
+    let mut all = Facts::default();
+    all.read_more(text, 0)?;
     Ok(all)
 }

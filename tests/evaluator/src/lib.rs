@@ -10,6 +10,8 @@ pub mod entered;
 pub mod facts;
 pub mod forms;
 pub mod generate;
+pub mod join;
+pub mod joined;
 pub mod json;
 pub mod meaning;
 pub mod names;
@@ -26,6 +28,7 @@ pub mod shapes;
 pub mod shares;
 pub mod ties;
 pub mod tokens;
+pub mod two_files;
 
 use facts::{Element, Facts};
 use meaning::{Row, Set, World};

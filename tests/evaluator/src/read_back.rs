@@ -4,6 +4,7 @@
 use crate::calculator::{refused, same, Answer, Calculator};
 use crate::facts::{needs_quotes, Relation};
 use crate::generate::Texts;
+use crate::join::Tuples;
 use crate::names::Names;
 use crate::run::Ending;
 use crate::{tokens, Accepted};
@@ -14,12 +15,9 @@ const PAGE: usize = 32768;
 /// Bytes lent to a run: enough for the pages of all its relations, most times.
 const ROOM: usize = 1 << 22;
 
-/// A relation's tuples by the texts of their elements.
-type Tuples = BTreeSet<Vec<Vec<u8>>>;
-
 impl Answer {
     /// "Tuple (a) is bit a; (a,b) is bit b of word a; (a,b,c) is bit c of word U × a + b; the empty tuple is bit 0."
-    fn tuples(&self, relation: usize, elements: &[Vec<u8>]) -> Tuples {
+    pub fn tuples(&self, relation: usize, elements: &[Vec<u8>]) -> Tuples {
         let [_, _, _, arity, ..] = self.checked.records[relation];
         let u = self.checked.universe;
         let mut found = Tuples::new();

@@ -14,13 +14,13 @@ use Rattle.facts.proofs.ReadingLaws.{lines-dot, lines-last, lines-more,
 use Rattle.facts.proofs.ReadingLaws.{fails-at}
 
 abbrev Inv-loop : tie.InvT-loop
-Inv-loop facts query relations₀ universe₀ hints₀ c₀ a₀ relations universe hints c a = (a ≤ length facts) × (length relations ≡ length relations₀) × (length universe ≡ length universe₀) × Reading facts query relations₀ universe₀ (lines a (cut (drop a facts))) relations universe c
+Inv-loop facts query relations₀ universe₀ hints₀ k₀ a₀ relations universe hints k a = (a ≤ length facts) × (length relations ≡ length relations₀) × (length universe ≡ length universe₀) × Reading facts query relations₀ universe₀ k₀ (lines a (cut (drop a facts))) relations universe k
 
 abbrev μ-loop : tie.MeasureT-loop
-μ-loop facts query relations₀ universe₀ hints₀ c₀ a₀ relations universe hints c a = length facts - a
+μ-loop facts query relations₀ universe₀ hints₀ k₀ a₀ relations universe hints k a = length facts - a
 
 loop-holds : tie.Need-loop-holds Inv-loop μ-loop
-loop-holds c = (omega arith, refl, refl, reading-start _ _ _ _)
+loop-holds c = (omega arith, refl, refl, reading-start _ _ _ _ _ (c .before .before .before .before .pre .0) (c .before .before .before .before .pre .1))
 
 run-end-requires : tie.Need-run-end-requires Inv-loop μ-loop
 run-end-requires c κs = c .loop .inv .0
@@ -30,9 +30,10 @@ line-end-requires c κs = c .run-end .ensures .1
 
 take-line-requires : tie.Need-take-line-requires Inv-loop μ-loop
 take-line-requires c κs =
+    let s = c .before .before .before .before .before .before .before .before .before .before in
     let h = c .before .before .before .before .before .loop .inv .3 in
     let line-end = c .before .before .before .line-end in
-    (omega (arith, h .relations .room, held-length (h .relations)), omega (arith, h .elements .room, held-length (h .elements)), line-end .ensures .1 .0, omega (arith, line-end .ensures .1 .1, c .before .before .before .before .run-end .ensures .1 .1), c .before .before .before .before .before .before .before .before .before .before .pre, reading-ascending _ _ _ _ h)
+    (omega (arith, h .relations .room, held-length (h .relations)), omega (arith, h .elements .room, held-length (h .elements)), line-end .ensures .1 .0, omega (arith, line-end .ensures .1 .1, c .before .before .before .before .run-end .ensures .1 .1), s .pre .2, reading-ascending _ _ _ _ _ (s .pre .3) h)
 
 enum-told : tie.Need-enum-told Inv-loop μ-loop
 enum-told c = search needs
@@ -50,7 +51,7 @@ returns c =
     let run-end = c .before .before .before .before .before .before .before .before .before .before .before .run-end in
     let line-end = c .before .before .before .before .before .before .before .before .before .before .line-end in
     let take-line = c .before .before .before .before .before .before .take-line in
-    let t = (subst (Taken (s .args .facts .now) (s .args .query .now) (line-of (s .args .facts .now) (l .a) (line-end .result)) (l .relations) (take-line .last .1 .1 .0) (l .universe) (take-line .last .1 .1 .1 .0) (l .c)) (c .enum-told .given .1) (take-line .ensures)) in reading-end _ _ _ _ (subst (λ (ls : List Line). Reading (s .args .facts .now) (s .args .query .now) (s .args .relations .now) (s .args .universe .now) ls (l .relations) (l .universe) (l .c)) (lines-dot (s .args .facts .now) (l .a) (run-end .result) (l .inv .0) (run-end .ensures .0) (run-end .ensures .1 .1) (line-end .result) (line-end .ensures .0) (t .0)) (l .inv .3)) (t .1) (t .2)
+    let t = (subst (Taken (s .args .facts .now) (s .args .query .now) (line-of (s .args .facts .now) (l .a) (line-end .result)) (l .relations) (take-line .last .1 .1 .0) (l .universe) (take-line .last .1 .1 .1 .0) (l .k)) (c .enum-told .given .1) (take-line .ensures)) in reading-end _ _ _ _ _ (subst (λ (ls : List Line). Reading (s .args .facts .now) (s .args .query .now) (s .args .relations .now) (s .args .universe .now) (s .args .c) ls (l .relations) (l .universe) (l .k)) (lines-dot (s .args .facts .now) (l .a) (run-end .result) (l .inv .0) (run-end .ensures .0) (run-end .ensures .1 .1) (line-end .result) (line-end .ensures .0) (t .0)) (l .inv .3)) (t .1) (t .2)
 
 enum-known-q : tie.Need-enum-known-q Inv-loop μ-loop
 enum-known-q c = search needs
@@ -68,7 +69,7 @@ returns-2 c =
     let run-end = c .before .before .before .before .before .before .before .before .before .before .before .before .run-end in
     let line-end = c .before .before .before .before .before .before .before .before .before .before .before .line-end in
     let take-line = c .before .before .before .before .before .before .before .take-line in
-    let t = (subst (Taken (s .args .facts .now) (s .args .query .now) (line-of (s .args .facts .now) (l .a) (line-end .result)) (l .relations) (take-line .last .1 .1 .0) (l .universe) (take-line .last .1 .1 .1 .0) (l .c)) (c .before .q .given .1) (take-line .ensures)) in fails-at (s .args .facts .now) (l .a) (run-end .result) (line-end .result) (l .inv .0) (run-end .ensures .0) (run-end .ensures .1 .1) (line-end .ensures .0) (t .0) (s .args .query .now) (s .args .relations .now) (s .args .universe .now) (l .relations) (l .universe) (l .c) (l .inv .3) (take-line .last .1 .1 .0) (take-line .last .1 .1 .1 .0) (c .before .q .given .0 .0) (t .1)
+    let t = (subst (Taken (s .args .facts .now) (s .args .query .now) (line-of (s .args .facts .now) (l .a) (line-end .result)) (l .relations) (take-line .last .1 .1 .0) (l .universe) (take-line .last .1 .1 .1 .0) (l .k)) (c .before .q .given .1) (take-line .ensures)) in fails-at (s .args .facts .now) (l .a) (run-end .result) (line-end .result) (l .inv .0) (run-end .ensures .0) (run-end .ensures .1 .1) (line-end .ensures .0) (t .0) (s .args .query .now) (s .args .relations .now) (s .args .universe .now) (s .args .c) (l .relations) (l .universe) (l .k) (l .inv .3) (take-line .last .1 .1 .0) (take-line .last .1 .1 .1 .0) (c .before .q .given .0 .0) (t .1)
 
 enum-known-d : tie.Need-enum-known-d Inv-loop μ-loop
 enum-known-d c = search needs
@@ -86,7 +87,7 @@ returns-3 c =
     let run-end = c .before .before .before .before .before .before .before .before .before .before .before .before .before .run-end in
     let line-end = c .before .before .before .before .before .before .before .before .before .before .before .before .line-end in
     let take-line = c .before .before .before .before .before .before .before .before .take-line in
-    let t = (subst (Taken (s .args .facts .now) (s .args .query .now) (line-of (s .args .facts .now) (l .a) (line-end .result)) (l .relations) (take-line .last .1 .1 .0) (l .universe) (take-line .last .1 .1 .1 .0) (l .c)) (c .before .before .d .given .1) (take-line .ensures)) in reading-end _ _ _ _ (reading-more _ _ _ _ (subst (λ (ls : List Line). Reading (s .args .facts .now) (s .args .query .now) (s .args .relations .now) (s .args .universe .now) ls (l .relations) (l .universe) (l .c)) (lines-last (s .args .facts .now) (l .a) (run-end .result) (l .inv .0) (run-end .ensures .0) (run-end .ensures .1 .1) (line-end .result) (line-end .ensures .0) (t .0) (c .if1 .taken)) (l .inv .3)) (c .before .before .d .given .0 .0) t) refl refl
+    let t = (subst (Taken (s .args .facts .now) (s .args .query .now) (line-of (s .args .facts .now) (l .a) (line-end .result)) (l .relations) (take-line .last .1 .1 .0) (l .universe) (take-line .last .1 .1 .1 .0) (l .k)) (c .before .before .d .given .1) (take-line .ensures)) in reading-end _ _ _ _ _ (reading-more _ _ _ _ _ (subst (λ (ls : List Line). Reading (s .args .facts .now) (s .args .query .now) (s .args .relations .now) (s .args .universe .now) (s .args .c) ls (l .relations) (l .universe) (l .k)) (lines-last (s .args .facts .now) (l .a) (run-end .result) (l .inv .0) (run-end .ensures .0) (run-end .ensures .1 .1) (line-end .result) (line-end .ensures .0) (t .0) (c .if1 .taken)) (l .inv .3)) (c .before .before .d .given .0 .0) t) refl refl
 
 add-a : tie.Need-add-a Inv-loop μ-loop
 add-a c = omega (arith, c .before .before .before .before .before .before .before .before .before .before .before .before .before .run-end .ensures .1, c .if1 .left)
@@ -101,7 +102,7 @@ loop-again c =
     let run-end = c .before .before .before .before .before .before .before .before .before .before .before .before .before .run-end in
     let line-end = c .before .before .before .before .before .before .before .before .before .before .before .before .line-end in
     let take-line = c .before .before .before .before .before .before .before .before .take-line in
-    let t = (subst (Taken (s .args .facts .now) (s .args .query .now) (line-of (s .args .facts .now) (l .a) (line-end .result)) (l .relations) (take-line .last .1 .1 .0) (l .universe) (take-line .last .1 .1 .1 .0) (l .c)) (c .before .before .d .given .1) (take-line .ensures)) in let g = reading-more _ _ _ _ (subst (λ (ls : List Line). Reading (s .args .facts .now) (s .args .query .now) (s .args .relations .now) (s .args .universe .now) ls (l .relations) (l .universe) (l .c)) (lines-more (s .args .facts .now) (l .a) (run-end .result) (l .inv .0) (run-end .ensures .0) (run-end .ensures .1 .1) (line-end .result) (line-end .ensures .0) (t .0) (omega (arith, run-end .ensures .1, c .if1 .left))) (l .inv .3)) (c .before .before .d .given .0 .0) t in (omega (arith, run-end .ensures .1, c .if1 .left), held-length (g .relations), held-length (g .elements), g)
+    let t = (subst (Taken (s .args .facts .now) (s .args .query .now) (line-of (s .args .facts .now) (l .a) (line-end .result)) (l .relations) (take-line .last .1 .1 .0) (l .universe) (take-line .last .1 .1 .1 .0) (l .k)) (c .before .before .d .given .1) (take-line .ensures)) in let g = reading-more _ _ _ _ _ (subst (λ (ls : List Line). Reading (s .args .facts .now) (s .args .query .now) (s .args .relations .now) (s .args .universe .now) (s .args .c) ls (l .relations) (l .universe) (l .k)) (lines-more (s .args .facts .now) (l .a) (run-end .result) (l .inv .0) (run-end .ensures .0) (run-end .ensures .1 .1) (line-end .result) (line-end .ensures .0) (t .0) (omega (arith, run-end .ensures .1, c .if1 .left))) (l .inv .3)) (c .before .before .d .given .0 .0) t in (omega (arith, run-end .ensures .1, c .if1 .left), held-length (g .relations), held-length (g .elements), g)
 
 pub read-lines-spec : {M : Type 1} → statement M
 read-lines-spec =

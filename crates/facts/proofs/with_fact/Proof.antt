@@ -8,7 +8,7 @@ use Rattle.facts.specs.Words.{line-word}
 use Rattle.facts.specs.Pass.{RelationUsed, UniverseUsed}
 use Rattle.facts.specs.declared.Used.{Used}
 use Rattle.facts.specs.declared.ElementsUsed.{ElementsUsed}
-use Rattle.facts.proofs.FactLaws.{taken-full, taken-other, taken-many, taken-fits}
+use Rattle.facts.proofs.FactLaws.{taken-clash, taken-full, taken-other, taken-many, taken-fits}
 
 -- what the calls say of the lists
 relation-used : (c : tie.After-use-relation) (u : Used) → c .use-relation .result ≡ u
@@ -36,6 +36,9 @@ enum-told c = search needs
 
 enum-told-2 : tie.Need-enum-told-2
 enum-told-2 c = search needs
+
+enum-told-3 : tie.Need-enum-told-3
+enum-told-3 c = search needs
 
 last-place-requires : tie.Need-last-place-requires
 last-place-requires c κs = search needs
@@ -65,29 +68,37 @@ same-length-2 c = search needs
 
 returns-2 : tie.Need-returns-2
 returns-2 c =
-    let s = c .before .before .before .before .before .before .before .before .before .before .before .before in
-    taken-other (s .args .facts .now) (s .args .query .now) (s .args .a) (s .args .f) (s .pre .4 .arity) (s .pre .4 .name) (s .args .relations .now) (s .args .universe .now) (s .args .c) (c .before .before .before .before .before .use-relation .last .1 .1 .0) (s .args .universe .now) (c .last-place .result) (c .last-place .ensures) (relation-used (c .before .before .before .before .before) _ (c .before .enum-told2 .given .1))
+    let s = c .before .before .before .before .before .before .before .before .before .before .before in
+    taken-clash (s .args .facts .now) (s .args .query .now) (s .args .a) (s .args .f) (s .pre .4 .arity) (s .pre .4 .name) (s .args .relations .now) (s .args .universe .now) (s .args .c) (c .before .before .before .before .use-relation .last .1 .1 .0) (s .args .universe .now) (relation-used (c .before .before .before .before) _ (c .enum-told2 .given .1))
 
 same-length-3 : tie.Need-same-length-3
 same-length-3 c = search needs
 
-same-length-4 : tie.Need-same-length-4
-same-length-4 c = search needs
-
 returns-3 : tie.Need-returns-3
 returns-3 c =
-    let s = c .before .before .before .before .before .before .before .before .before .before .before .before .before .before .before .before .before .before .before .before in
-    let r = c .before .before .before .before .before .before .before .before .before .r in
-    taken-many (s .args .facts .now) (s .args .query .now) (s .args .a) (s .args .f) (s .pre .4 .arity) (s .pre .4 .name) (s .args .relations .now) (s .args .universe .now) (s .args .c) (c .before .before .before .before .before .before .before .before .before .before .before .before .before .use-relation .last .1 .1 .0) (c .before .before .before .before .before .use-elements .last .1 .1 .0) (r .given .0 .0) (relation-used (c .before .before .before .before .before .before .before .before .before .before .before .before .before) _ (r .given .1)) (c .before .p .given .0 .0) (universe-used (c .before .before .before .before .before) _ (c .before .p .given .1))
+    let s = c .before .before .before .before .before .before .before .before .before .before .before .before in
+    taken-other (s .args .facts .now) (s .args .query .now) (s .args .a) (s .args .f) (s .pre .4 .arity) (s .pre .4 .name) (s .args .relations .now) (s .args .universe .now) (s .args .c) (c .before .before .before .before .before .use-relation .last .1 .1 .0) (s .args .universe .now) (c .last-place .result) (c .last-place .ensures) (relation-used (c .before .before .before .before .before) _ (c .before .enum-told3 .given .1))
+
+same-length-4 : tie.Need-same-length-4
+same-length-4 c = search needs
 
 same-length-5 : tie.Need-same-length-5
 same-length-5 c = search needs
 
+returns-4 : tie.Need-returns-4
+returns-4 c =
+    let s = c .before .before .before .before .before .before .before .before .before .before .before .before .before .before .before .before .before .before .before .before in
+    let r = c .before .before .before .before .before .before .before .before .before .r in
+    taken-many (s .args .facts .now) (s .args .query .now) (s .args .a) (s .args .f) (s .pre .4 .arity) (s .pre .4 .name) (s .args .relations .now) (s .args .universe .now) (s .args .c) (c .before .before .before .before .before .before .before .before .before .before .before .before .before .use-relation .last .1 .1 .0) (c .before .before .before .before .before .use-elements .last .1 .1 .0) (r .given .0 .0) (relation-used (c .before .before .before .before .before .before .before .before .before .before .before .before .before) _ (r .given .1)) (c .before .p .given .0 .0) (universe-used (c .before .before .before .before .before) _ (c .before .p .given .1))
+
 same-length-6 : tie.Need-same-length-6
 same-length-6 c = search needs
 
-returns-4 : tie.Need-returns-4
-returns-4 c =
+same-length-7 : tie.Need-same-length-7
+same-length-7 c = search needs
+
+returns-5 : tie.Need-returns-5
+returns-5 c =
     let s = c .before .before .before .before .before .before .before .before .before .before .before .before .before .before .before .before .before .before .before .before in
     let r = c .before .before .before .before .before .before .before .before .before .r in
     taken-fits (s .args .facts .now) (s .args .query .now) (s .args .a) (s .args .f) (s .pre .4 .arity) (s .pre .4 .name) (s .args .relations .now) (s .args .universe .now) (s .args .c) (c .before .before .before .before .before .before .before .before .before .before .before .before .before .use-relation .last .1 .1 .0) (c .before .before .before .before .before .use-elements .last .1 .1 .0) (r .given .0 .0) (relation-used (c .before .before .before .before .before .before .before .before .before .before .before .before .before) _ (r .given .1)) (c .before .e .given .0 .0) (universe-used (c .before .before .before .before .before) _ (c .before .e .given .1))
@@ -100,6 +111,7 @@ with-fact-spec =
     use-relation-requires
     enum-told
     enum-told-2
+    enum-told-3
     last-place-requires
     enum-known-r
     use-elements-requires
@@ -110,8 +122,10 @@ with-fact-spec =
     same-length-2
     returns-2
     same-length-3
-    same-length-4
     returns-3
+    same-length-4
     same-length-5
+    returns-4
     same-length-6
-    returns-4)
+    same-length-7
+    returns-5)

@@ -6,7 +6,7 @@ use mathlib.Core.Path.{ap, _∙_}
 use denote.Ref.{now}
 use Rattle.definition.specs.Limits.{FACT-BYTES}
 use Rattle.parts.specs.Entries.{index}
-use Rattle.loading.proofs.OneFact.{in-byte-order}
+use Rattle.loading.proofs.OneFact.{known-stated, in-byte-order}
 use Rattle.loading.proofs.Steps.{loaded-one}
 
 packed-requires : tie.Need-packed-requires
@@ -31,7 +31,7 @@ returns c =
     let k = c .before .before .before .before .before .index-of .ensures .0 ∙ ap (λ (v : ℕ). index (now (a .facts)) (now (a .query)) v (now (a .relations))) (c .before .before .before .before .before .before .packed .ensures) in
     let t = c .before .before .before .before .fact-tuple .ensures in
     let l = c .before .before .load-at .ensures in (
-      λ w r gs h. loaded-one (now (a .facts)) (now (a .query)) (now (a .relations)) (now (a .places)) (now (a .firsts)) (a .u) w r (a .a) FACT-BYTES (a .f) (S .pre .1) gs (now (a .store)) h _ _ _ k (t (in-byte-order (now (a .facts)) (now (a .query)) (now (a .relations)) (now (a .places)) w (r .known))) (l .0),
+      λ w r gs h. loaded-one (now (a .facts)) (now (a .query)) (now (a .relations)) (now (a .places)) (now (a .firsts)) (a .u) w r (a .a) FACT-BYTES (a .f) (S .pre .1) gs (now (a .store)) h _ _ _ k (t (in-byte-order (now (a .facts)) (now (a .query)) (now (a .relations)) (now (a .places)) w (known-stated (now (a .facts)) (now (a .query)) (now (a .relations)) (now (a .places)) w (r .known)))) (l .0),
       l .1,
     )
 

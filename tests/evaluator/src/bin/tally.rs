@@ -1,10 +1,11 @@
 //! How many generated texts are accepted, how the others are refused, which forms the accepted ones have, which elements they print,
 //! what ratios come to, how large relations become and which are read back, what malformed patterns and numbers come to, where bytes 13
-//! stand, and which chains there are: what the comparisons reach.
+//! stand, which chains there are, and how texts are joined: what the comparisons reach.
 use evaluator::calculator::Evaluator;
 use evaluator::generate::{texts, Chain, Texts, LIMITS};
 use evaluator::read_back::relations;
-use evaluator::{accept, chain, comes_first, counted, forms, Accepted};
+use evaluator::two_files::{calls, Join};
+use evaluator::{accept, chain, comes_first, counted, forms, joined, Accepted};
 use std::collections::BTreeMap;
 
 /// What accepted texts have and what their runs do.
@@ -31,6 +32,11 @@ fn answered(facts: &[u8], c: &Chain) -> Vec<String> {
         Err((17, _)) if c.first == c.second => vec!["chain refused 17".into(), "chain refused 17 with equal ends".into()],
         Err((row, _)) => vec![format!("chain refused {row:2}")],
     }
+}
+
+/// What a join comes to, and what it holds to.
+fn joined_as(j: &Join) -> Vec<String> {
+    joined::of(&Evaluator, &j.first, &j.second, j.room).unwrap_or_else(|e| vec![format!("join: {e}")])
 }
 
 fn main() {
@@ -60,6 +66,7 @@ fn main() {
         };
         *tally.entry(what).or_default() += 1;
         t.chains.iter().flat_map(|c| answered(&t.facts, c)).for_each(|what| *tally.entry(what).or_default() += 1);
+        calls(number).iter().flat_map(joined_as).for_each(|what| *tally.entry(what).or_default() += 1);
     }
     for (what, n) in tally {
         println!("{n:7} {what}");

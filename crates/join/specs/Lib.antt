@@ -1,0 +1,2 @@
+-- What the two texts have given at each stage of the join.
+pub mod United

@@ -1,0 +1,3 @@
+-- Laws over plain lists.
+pub mod Turning
+pub mod TurnedLaws
