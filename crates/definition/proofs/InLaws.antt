@@ -11,7 +11,7 @@ use lib.ListN.{length}
 use Rattle.definition.specs.Text.{some_of, keep, gather, from}
 use Rattle.definition.specs.Tables.{Tuple, tuples}
 use Rattle.definition.proofs.BoolLaws.{or_cases, or_left, or_right}
-use Rattle.definition.proofs.ListLaws.{Each, each_one, Every, every_none, every_one}
+use Rattle.definition.proofs.ListLaws.{Each, each_none, each_one, Every, every_none, every_one}
 
 pub data In {A : Type 0} (x : A) : List A → Type 0 where
   here : {y : A} {xs : List A} → x ≡ y → In x (y ∷ xs)
@@ -50,6 +50,7 @@ module _ {A : Type 0} where
 
   pub keep_in : (p : A → Bool) {x : A} (xs : List A) → In x (keep p xs) → In x xs × T (p x)
   unfolding keep
+  keep_in p {x = x} [] i = elim i [ ]
   keep_in p {x} (y ∷ xs) i = go (p y) refl i (keep_in p xs)
     where
       next : (In x (keep p xs) → In x xs × T (p x)) → In x (keep p xs) → In x (y ∷ xs) × T (p x)
@@ -78,6 +79,7 @@ module _ {A : Type 0} where
       go (inr s) ih = let k = ih s in (k.0, there k.1, k.2)
 
   pub every_in : {P : A → Type 0} {x : A} {xs : List A} → Every P xs → In x xs → P x
+  every_in {P = P} every_none x4 = elim x4 [ ]
   every_in {P} (every_one h hs) (here e) = subst P (sym e) h
   every_in (every_one h hs) (there i) = every_in hs i
 
@@ -91,6 +93,7 @@ module _ {A B : Type 0} where
   in_map f (there i) = there (in_map f i)
 
   pub map_in : (f : A → B) {y : B} (xs : List A) → In y (map f xs) → (x : A) × In x xs × (y ≡ f x)
+  map_in f {y = y} [] x' = elim x' [ ]
   map_in f (x ∷ xs) (here e) = (x, here refl, e)
   map_in f (x ∷ xs) (there i) = let k = map_in f xs i in (k.0, there k.1, k.2)
 
@@ -101,6 +104,7 @@ module _ {A B : Type 0} where
 
   pub gather_in : (f : A → List B) {y : B} (xs : List A) → In y (gather f xs) → (x : A) × In x xs × In y (f x)
   unfolding gather
+  gather_in f {y = y} [] i = elim i [ ]
   gather_in f {y} (x ∷ xs) i = go (in_either (f x) i) (gather_in f xs)
     where
       go : In y (f x) ⊎ In y (gather f xs) → (In y (gather f xs) → (z : A) × In z xs × In y (f z)) → (z : A) × In z (x ∷ xs) × In y (f z)
@@ -108,10 +112,12 @@ module _ {A B : Type 0} where
       go (inr j) ih = let k = ih j in (k.0, there k.1, k.2)
 
   pub each_left : {R : A → B → Type 0} {x : A} {xs : List A} {ys : List B} → Each R xs ys → In x xs → (y : B) × In y ys × R x y
+  each_left {R = R} each_none x5 = elim x5 [ ]
   each_left {R} (each_one {b} h hs) (here e) = (b, here refl, subst (λ z. R z b) (sym e) h)
   each_left (each_one h hs) (there i) = let k = each_left hs i in (k.0, there k.1, k.2)
 
   pub each_right : {R : A → B → Type 0} {y : B} {xs : List A} {ys : List B} → Each R xs ys → In y ys → (x : A) × In x xs × R x y
+  each_right {R = R} {y = y} each_none x4 = elim x4 [ ]
   each_right {R} (each_one {a} h hs) (here e) = (a, here refl, subst (λ z. R a z) (sym e) h)
   each_right (each_one h hs) (there i) = let k = each_right hs i in (k.0, there k.1, k.2)
 

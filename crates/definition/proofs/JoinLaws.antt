@@ -22,7 +22,7 @@ use Rattle.definition.proofs.ListLaws.{some_append, gather_append, gather_map, E
 use Rattle.definition.proofs.InLaws.{In, here, there, in_keep, keep_in, in_some, some_in, every_in, all_in, in_map, map_in, in_gather, gather_in, each_left, each_right, in_tuples}
 use Rattle.definition.proofs.TupleLaws.{gather_ext}
 use Rattle.definition.proofs.MeaningLaws.{same_eq, same_refl, same_itself, same_equal, member_first, member_later}
-use Rattle.definition.proofs.DistinctLaws.{Distinct, distinct_one}
+use Rattle.definition.proofs.DistinctLaws.{Distinct, distinct_one, distinct_head, distinct_tail}
 use Rattle.definition.proofs.UniverseLaws.{member_insert, insert_ascending}
 use Rattle.definition.proofs.AcceptLaws.{ok_injective, then_ok, was_ok, not_refused, has, in_facts, parts}
 use Rattle.definition.proofs.NamedLaws.{names}
@@ -90,11 +90,13 @@ insert_in r {q} (s ∷ qs) i = go (earlier r.name s.name) i (insert_in r qs)
 
 pub in_by_name : {q : Relation} (rs : List Relation) → In q rs → In q (by_name rs)
 unfolding by_name
+in_by_name {q = q} [] x' = elim x' [ ]
 in_by_name (r ∷ rs) (here e) = in_insert r (here e)
 in_by_name (r ∷ rs) (there i) = in_insert r (there (in_by_name rs i))
 
 pub by_name_in : {q : Relation} (rs : List Relation) → In q (by_name rs) → In q rs
 unfolding by_name
+by_name_in {q = q} [] i = elim i [ ]
 by_name_in {q} (r ∷ rs) i = go (insert_in r (by_name rs) i) (by_name_in rs)
   where
     go : In q (r ∷ by_name rs) → (In q (by_name rs) → In q rs) → In q (r ∷ rs)
@@ -103,16 +105,21 @@ by_name_in {q} (r ∷ rs) i = go (insert_in r (by_name rs) i) (by_name_in rs)
 
 -- A relation of distinct names: its name is one of the names, and has its one arity.
 pub name_in : {q : Relation} {rs : List Relation} → In q rs → T (member q.name (names rs))
+name_in {q = q} {rs = []} x'' = elim x'' [ ]
 name_in {q} {rs = r ∷ rs} (here e) = subst (λ (x : Text). T (member q.name (x ∷ names rs))) (ap (λ (z : Relation). z.name) e) (member_first q.name (names rs))
 name_in {q} {rs = r ∷ rs} (there i) = member_later r.name q.name (names rs) (name_in i)
 
-pub arity_in : {rs : List Relation} → Distinct (names rs) → {q : Relation} → In q rs → arities q.name rs ≡ q.arity ∷ []
+arity_within : {q : Relation} {rs : List Relation} → In q rs → Distinct (names rs) → arities q.name rs ≡ q.arity ∷ []
 unfolding arities
-arity_in {rs = r ∷ rs} (distinct_one m d) {q} (here e) = rw (e, same_itself r.name)
-arity_in {rs = r ∷ rs} (distinct_one m d) {q} (there i) = rw (other) (arity_in d i)
+arity_within {q = q} {rs = []} x5 d = elim x5 [ ]
+arity_within {q} {rs = r ∷ rs} (here e) d = rw (e, same_itself r.name)
+arity_within {q} {rs = r ∷ rs} (there i) d = rw (other) (arity_within i (distinct_tail d))
   where
     other : same q.name r.name ≡ false
-    other = is_false (same q.name r.name) (not_T (same q.name r.name) (λ s. apart (sym (is_true (member r.name (names rs)) (subst (λ (x : Text). T (member x (names rs))) (same_eq q.name r.name s) (name_in i))) ∙ m)))
+    other = is_false (same q.name r.name) (not_T (same q.name r.name) (λ s. apart (sym (is_true (member r.name (names rs)) (subst (λ (x : Text). T (member x (names rs))) (same_eq q.name r.name s) (name_in i))) ∙ distinct_head d)))
+
+pub arity_in : {rs : List Relation} → Distinct (names rs) → {q : Relation} → In q rs → arities q.name rs ≡ q.arity ∷ []
+arity_in d i = arity_within i d
 
 arities_in : (x : Text) (n : ℕ) (rs : List Relation) → arities x rs ≡ n ∷ [] → (q : Relation) × In q rs × (q.name ≡ x) × (q.arity ≡ n)
 unfolding arities
@@ -127,6 +134,7 @@ arities_in x n (r ∷ rs) e = go (same x r.name) refl e (arities_in x n rs)
     go false d e ih = let k = ih e in (k.0, there k.1, k.2, k.3)
 
 small_in : (rs : List Relation) → Small rs → {q : Relation} → In q rs → q.arity ≤ ARITY
+small_in [] h {q = q} x'' = elim x'' [ ]
 small_in (r ∷ rs) h (here e) = subst (λ (z : Relation). z.arity ≤ ARITY) (sym e) (h.each 0)
 small_in (r ∷ rs) h (there i) = small_in rs (small_rest h) i
 

@@ -138,6 +138,7 @@ module _ (w : Accepted) where
 
   stated : (r : Text) (vs : List Text) (qs : List Relation) → In vs (texts_in w r qs (map load qs)) → T (has_fact r vs w.facts)
   unfolding texts_in has_fact fact_holds
+  stated r vs [] i = elim i [ ]
   stated r vs (q ∷ qs) i = go (same r q.name) refl i (stated r vs qs)
     where
       found : r ≡ q.name → In vs (table_texts w (load q) q.arity) → T (some_of (says r vs) w.facts)

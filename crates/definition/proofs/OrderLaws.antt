@@ -123,5 +123,6 @@ sorted_at (sorted_one {x} {xs} h hs) (suc a) zero k l = absurd (omega arith)
 sorted_at (sorted_one {x} {xs} h hs) (suc a) (suc b) k l = sorted_at hs a b (omega arith) (omega arith)
 
 pub texts_sorted : {us : List Text} → Sorted Earlier us → {s t : Tuple} → Every (λ a. a < length us) t → Lex ◌<◌ s t → Lex Earlier (map (λ a. get_or us a []) s) (map (λ a. get_or us a []) t)
+texts_sorted {us = us} h {s = s} every_none x3 = elim x3 [ ]
 texts_sorted h (every_one {a = b} l ls) (at_once {x = a} k) = at_once (sorted_at h a b k l)
 texts_sorted {us} h (every_one l ls) (after e k) = after (ap (λ (a : ℕ). get_or us a []) e) (texts_sorted h ls k)
