@@ -1,4 +1,6 @@
 // Whether two texts are accepted: the passes over both, in document 01's order, and what they leave in the lent arrays.
+#![tactic(auto)]
+
 ghost use Rattle.std.specs.Prelude.{ℕ, ◌≤◌, ◌<◌, ◌≡◌, List, length, take};
 ghost use Rattle.definition.specs.Token.{Token};
 ghost use Rattle.definition.specs.Syntax.{Program};
@@ -17,7 +19,7 @@ use rows::{Ruled, program_rows};
 use universe::{Strings, enter_strings};
 
 // How many relations, elements, tokens and words two accepted texts have.
-#[derive(Drop)]
+#[derive(Clone, Copy)]
 pub struct Sizes {
     pub relations: usize,
     pub elements: usize,
@@ -25,7 +27,7 @@ pub struct Sizes {
     pub words: usize,
 }
 
-#[derive(Drop)]
+#[derive(Clone, Copy)]
 pub enum Texts {
     Accepted(Sizes),
     Refused(Refusal),

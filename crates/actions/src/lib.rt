@@ -1,4 +1,6 @@
 // The actions of statements over lowered words. Each works out the statement's closures in the store, and leaves their words zero.
+#![tactic(auto)]
+
 ghost use Rattle.std.specs.Prelude.{◌≡◌, ◌&&◌, ◌+◌, ◌-◌, ◌<◌, ◌≤◌, leb};
 ghost use Rattle.words.specs.Fields.{kind_of};
 ghost use Rattle.actions.specs.Parts.{is_statement, start, clear_word, clear_words};

@@ -1,4 +1,6 @@
 // The documents' numbers and places for refusals.
+#![tactic(auto)]
+
 ghost use Rattle.std.specs.Prelude.{◌≡◌};
 ghost use Rattle.definition.specs.Answer as Answer;
 

@@ -1,4 +1,6 @@
 // Worked lines of `assignment`, proved and run, in the universe B7, C10, C2, C5 of document 01, or its first two elements.
+#![tactic(auto)]
+
 ghost use Rattle.std.specs.Prelude.{◌+◌, ◌≤◌, ◌≡◌, [], ◌∷◌, length, take, replicate};
 ghost use Rattle.std.proofs.lemmas.List.Edits.{sets};
 ghost use Rattle.definition.specs.Tables.{table, table_words};

@@ -1,4 +1,6 @@
 // A word's bits, by shifts and masks. A bit number past the word's 64 bits is no mistake: such a bit is not set, and setting it changes nothing.
+#![tactic(auto)]
+
 ghost use Rattle.std.specs.Prelude.{◌≡◌, cond};
 ghost use Rattle.definition.specs.Tables.{bit};
 ghost use Rattle.bits.specs.Bits.{with_bit};

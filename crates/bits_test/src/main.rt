@@ -1,4 +1,6 @@
 // Worked lines of `bits`, proved and run.
+#![tactic(auto)]
+
 use bits::{put_bit, set_bit, test_bit};
 use check::expect;
 

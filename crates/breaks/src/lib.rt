@@ -1,4 +1,6 @@
 // The bytes of the facts and the ends of their lines: rows 1 and 2.
+#![tactic(auto)]
+
 ghost use Rattle.std.specs.Prelude.{◌≡◌, ◌-◌, ◌≤◌, length, take, drop};
 ghost use Rattle.definition.specs.Limits.{FACT_BYTES};
 ghost use Rattle.definition.specs.Facts.{cut, without_return, bytes_read, legal_at, legal_bytes};
@@ -73,7 +75,7 @@ fn read_end(facts: &[u8]) -> usize
 }
 
 // What rows 1 and 2 say of the bytes.
-#[derive(Drop)]
+#[derive(Clone, Copy)]
 pub enum FactsBytes {
     Right,
     Wrong(Refusal),

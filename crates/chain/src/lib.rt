@@ -1,4 +1,6 @@
 // The chain call: the facts are read, the rows of the name's pairs are filled, and the first chain is searched in them.
+#![tactic(auto)]
+
 ghost use Rattle.std.specs.Prelude.{◌≡◌, ℕ, ◌-◌, ◌<◌, ◌≤◌, List, eqb, length, replicate};
 ghost use Rattle.definition.specs.Text.{some_of};
 ghost use Rattle.definition.specs.Limits.{FACT_BYTES, document_01};

@@ -1,5 +1,7 @@
 // Prints the chains found over worked facts: a line for each, with the count and the numbers, or the row and the place of the refusal; then
 // how many bytes of the buffer are as they were.
+#![tactic(auto)]
+
 ghost use Rattle.std.specs.Prelude.{◌+◌, ◌≤◌, length};
 
 use chain::chain;

@@ -1,5 +1,7 @@
 // The search for the first chain of a binary table's pairs: levels of elements by their distance to the last one, then the way down the
 // levels by the least element of each.
+#![tactic(auto)]
+
 ghost use Rattle.std.specs.Prelude.{◌≡◌, ◌∷◌, ◌++◌, suc, ◌+◌, ◌<◌, ◌≤◌, length, get_or, drop};
 ghost use Rattle.definition.specs.Tables.{bit};
 ghost use Rattle.chains.specs.Levels.{least, meets, before, Near, way};

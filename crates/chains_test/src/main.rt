@@ -1,4 +1,6 @@
 // Prints the chains found in worked tables: a line for each, with the count and then the bytes of the buffer that are not as they were.
+#![tactic(auto)]
+
 ghost use Rattle.std.specs.Prelude.{◌+◌, ◌≤◌, length};
 
 use bits::set_bit;

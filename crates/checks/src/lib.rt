@@ -1,4 +1,6 @@
 // A comparison of whole lists, for the checks of the test programs.
+#![tactic(auto)]
+
 ghost use Rattle.std.specs.Prelude.{◌≡◌, true};
 
 // Whether a and b hold the same words.

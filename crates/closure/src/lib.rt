@@ -5,6 +5,8 @@
 //     FOR node IN Node(x) {                     `work_nodes`, ascending
 //         Result(x,y) := Result(x,y) | (Result(x,node) & Result(node,y));
 //     }                                         `work_node` for each x, `join_word` for all y at once: a whole row is joined with or
+#![tactic(auto)]
+
 ghost use Rattle.std.specs.Prelude.{◌≡◌, List, ℕ, ◌+◌, ◌<◌, ◌≤◌, length};
 ghost use Rattle.definition.specs.Tables.{through, closure};
 ghost use Rattle.closure.specs.Rows.{Rows, join_word};

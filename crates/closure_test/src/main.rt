@@ -1,4 +1,6 @@
 // Worked lines of `closure`, proved and run.
+#![tactic(auto)]
+
 ghost use Rattle.std.specs.Prelude.{◌≤◌, ◌≡◌, length};
 ghost use Rattle.definition.specs.Text.{below};
 ghost use Rattle.definition.specs.Tables.{through_all, closure};

@@ -1,4 +1,6 @@
 // The closures of a statement: each is worked out once, into its own table of the store, before the statement is evaluated.
+#![tactic(auto)]
+
 ghost use Rattle.std.specs.Prelude.{◌≡◌, ◌+◌, ◌-◌, ◌<◌, ◌≤◌, ◌%◌, length, set, replicate};
 ghost use Rattle.eval.specs.Nodes.{node_at, child_at};
 ghost use Rattle.closures.specs.Filling.{fill_at, fill_word, fill_words};

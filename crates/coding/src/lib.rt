@@ -1,4 +1,6 @@
 // Lowers the words of a whole program, statement by statement.
+#![tactic(auto)]
+
 ghost use Rattle.std.specs.Prelude.{◌≡◌, [], ℕ, ◌+◌, ◌≤◌, ◌<◌, length, get_or};
 ghost use Rattle.free.specs.Words.{Small};
 ghost use Rattle.coding.specs.Pass.{depths_after, is_named, token_part, string_code, name_code, code_of, Passed};

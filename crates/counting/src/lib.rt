@@ -1,4 +1,6 @@
 // The numbers of tuples of the relations without a store: each fact is a number, the different ones are counted relation by relation.
+#![tactic(auto)]
+
 ghost use Rattle.std.specs.Prelude.{◌≡◌, List, ◌++◌, ◌+◌, ◌≤◌, length, take, replicate};
 ghost use Rattle.definition.specs.Limits.{FACT_BYTES, document_01};
 ghost use Rattle.definition.specs.Facts.{Fact};

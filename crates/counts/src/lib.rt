@@ -1,4 +1,6 @@
 // The numbers of tuples of tables: the ones of their words.
+#![tactic(auto)]
+
 ghost use Rattle.std.specs.Prelude.{◌≡◌, ◌≤◌, length, replicate};
 ghost use Rattle.std.specs.Int.Count.{ones};
 ghost use Rattle.definition.proofs.CountLaws.{all_ones};

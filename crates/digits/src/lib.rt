@@ -1,4 +1,6 @@
 // Lists of up to four different digits from 1 to 4 as numbers: the first digit lowest, in base 8.
+#![tactic(auto)]
+
 ghost use Rattle.std.specs.Prelude.{◌≡◌, ◌+◌, ◌*◌, ◌≤◌, ◌<◌};
 ghost use Rattle.digits.specs.Packed.{has, put, plus, joined, before, without, count, none_or_in, inside};
 

@@ -1,4 +1,6 @@
 // The element call: "the text of element n as a part of the facts (first occurrence), or of the query if no fact holds it".
+#![tactic(auto)]
+
 ghost use Rattle.std.specs.Prelude.{◌+◌, ◌≤◌, ◌≡◌, length, take, drop};
 ghost use Rattle.definition.specs.Limits.{document_01};
 ghost use Rattle.definition.specs.Calls as Calls;

@@ -1,4 +1,6 @@
 // The element call on worked texts, proved and run: an element's bytes, and where in which of the two texts it stands.
+#![tactic(auto)]
+
 ghost use Rattle.std.specs.Prelude.{◌+◌, ◌≤◌, ◌≡◌, length, take, drop};
 ghost use Rattle.definition.specs.Limits.{document_01};
 ghost use Rattle.definition.specs.Calls as Calls;

@@ -1,4 +1,6 @@
 // The calls of the calculator: check and run. None of them keeps anything: all work arrays are locals.
+#![tactic(auto)]
+
 ghost use Rattle.std.specs.Prelude.{ℕ, ◌≤◌, ◌<◌, ◌≡◌, List, length};
 ghost use Rattle.definition.specs.Limits.{document_01, FACT_BYTES};
 ghost use Rattle.definition.specs.Answer.{refused, number, place};

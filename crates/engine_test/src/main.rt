@@ -1,6 +1,8 @@
 // Runs the worked cases of document 01, the manual's programs for closures, texts that a wrong engine would answer otherwise, patterns, elements in quotes, numbers of tuples,
 // quantities, and texts that are refused, each with its own budget, store and output. Prints the case's letter, what the text is for or the row, with the
 // query; then what the calls answer and how many bytes of the output are as they were lent, or how many tuples each relation has.
+#![tactic(auto)]
+
 use definition::{Checked, Figures, Ran, Record, Stopped, Verdict};
 use libc::STDOUT_FILENO;
 use lines::{put, put_text};

@@ -1,5 +1,7 @@
 // Expressions, loosest first: a function for each strength of sign, which call each other as the grammar does; and quantities, which stand
 // beside a sign.
+#![tactic(auto)]
+
 ghost use Rattle.std.specs.Prelude.{length, ◌≡◌, ℕ, ◌+◌, ◌≤◌, ◌<◌};
 ghost use Rattle.expressions.specs.Operators.{JoinRoom, Joined, WrapRoom, Wrapped, IsBound, BindRoom, Binds, Quantifier, Applies, Applied, IsSummand, IsSum, IsNinth};
 ghost use Rattle.terms.specs.Phrases.{kind_in, Room, IsExpression, IsImplication, IsDisjunction, IsConjunction, IsNegation, IsPrimary, IsQuantity};

@@ -1,4 +1,6 @@
 // The facts: a line read as a part of the text.
+#![tactic(auto)]
+
 ghost use Rattle.std.specs.Prelude.{◌≡◌, [], ◌∷◌, ◌++◌, ℕ, ◌+◌, ◌-◌, ◌≤◌, ◌<◌, length, get_or, take, drop, replicate};
 ghost use Rattle.definition.specs.Text.{Text};
 ghost use Rattle.definition.specs.Limits.{ARITY, WORD_BYTES, FACT_BYTES};
@@ -17,7 +19,7 @@ use parts::{Entered, index_of, packed};
 use texts::{Class, is_name, run_end, starts_with};
 
 // An element of a line: its place in the line, which is its opening quote's if it has one, and the length of its value.
-#[derive(Drop)]
+#[derive(Clone, Copy)]
 pub struct Item {
     pub place: usize,
     pub len: usize,
@@ -25,7 +27,7 @@ pub struct Item {
 }
 
 // What stands next in a line: nothing, an element and the bytes that it takes, or a malformed element.
-#[derive(Drop)]
+#[derive(Clone, Copy)]
 pub enum Next {
     Nothing,
     Found(Item, usize),
@@ -33,7 +35,7 @@ pub enum Next {
 }
 
 // A fact: the length of its name, which starts the line, and up to three elements.
-#[derive(Drop)]
+#[derive(Clone, Copy)]
 pub struct FactLine {
     pub name_len: usize,
     pub arity: usize,
@@ -43,7 +45,7 @@ pub struct FactLine {
 }
 
 // What a line reads as: a fact, a line that is skipped, the dot that ends the facts, or a refusal with its place in the line.
-#[derive(Drop)]
+#[derive(Clone, Copy)]
 pub enum LineRead {
     Holds(FactLine),
     Skipped,
@@ -230,7 +232,7 @@ pub fn read_line(l: &[u8]) -> LineRead
 
 // How many relations there are after the use of a name, or that it has another arity, in this text or in the first, or that there is no
 // room for one more.
-#[derive(Drop)]
+#[derive(Clone, Copy)]
 enum Used {
     Count(usize),
     OtherArity,
@@ -298,7 +300,7 @@ fn element_word(a: usize, x: Item) -> usize
 }
 
 // How many elements there are after a fact, or the place of the one for which there is no room.
-#[derive(Drop)]
+#[derive(Clone, Copy)]
 enum ElementsUsed {
     Elements(usize),
     TooMany(usize),
@@ -347,13 +349,13 @@ fn last_place(a: usize, f: FactLine) -> usize
 }
 
 // How many relations and elements there are.
-#[derive(Drop)]
+#[derive(Clone, Copy)]
 pub struct Counts {
     pub relations: usize,
     pub elements: usize,
 }
 
-#[derive(Drop)]
+#[derive(Clone, Copy)]
 enum FactUsed {
     Fits(Counts),
     Refused(Refusal),
@@ -396,7 +398,7 @@ fn with_fact<'a>(
 }
 
 // What a line makes of the lists: more of them, the dot that ends the facts, or a refusal.
-#[derive(Drop)]
+#[derive(Clone, Copy)]
 enum LineTaken {
     More(Counts),
     Dot,
@@ -431,7 +433,7 @@ fn take_line<'a>(
 }
 
 // What the facts give: how many relations and elements the lent words hold, or why they are refused.
-#[derive(Drop)]
+#[derive(Clone, Copy)]
 pub enum FactsRead {
     Given(Counts),
     Refused(Refusal),
@@ -522,7 +524,7 @@ pub fn read_facts<'a>(
 }
 
 // The fact of a line that is read again, if it holds one; or the dot that ends the facts.
-#[derive(Drop)]
+#[derive(Clone, Copy)]
 enum LineFact {
     Has(FactLine),
     Lacks,
@@ -543,7 +545,7 @@ fn line_fact(l: &[u8]) -> LineFact
 }
 
 // The next fact of facts that are read again: where its line starts, what it holds, and where the line after it starts.
-#[derive(Drop)]
+#[derive(Clone, Copy)]
 pub enum NextFact {
     Fact(usize, FactLine, usize),
     NoMore,

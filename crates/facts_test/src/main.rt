@@ -1,5 +1,7 @@
 // Worked facts: what is given, or the row and the place of the refusal. Most have two relations and four elements as limits, alone and
 // after another text; then document 01's own limits, below, at and above each.
+#![tactic(auto)]
+
 use facts::{Counts, FactsRead, read_facts, read_second};
 use libc::STDOUT_FILENO;
 use lines::{put, put_text};

@@ -1,5 +1,7 @@
 // The answers of the calls as structs of numbers: `refusal` is 0 where the call succeeds and document 01's number otherwise, and fields
 // that do not apply are 0.
+#![tactic(auto)]
+
 ghost use Rattle.std.specs.Prelude.{◌≡◌, map, length};
 ghost use Rattle.definition.specs.Answer.{ending_number};
 ghost use Rattle.parts.specs.Packed.{part_of};
@@ -10,7 +12,7 @@ use definition::{Chained, Checked, Ending, Joined, Ran, Record, RunAnswer, Verdi
 // A relation: the first place of its name (text 0 is the facts, 1 the query), its arity, its first word in the store, and the number of its
 // tuples as loaded.
 #[repr(C)]
-#[derive(Drop)]
+#[derive(Clone, Copy)]
 pub struct CRecord {
     pub text: u64,
     pub offset: u64,
@@ -46,7 +48,7 @@ pub struct CRan {
 
 // A part of the facts (text 0) or of the query (text 1).
 #[repr(C)]
-#[derive(Drop)]
+#[derive(Clone, Copy)]
 pub struct CPart {
     pub text: u64,
     pub offset: u64,
@@ -55,7 +57,7 @@ pub struct CPart {
 
 // What the chain call answers.
 #[repr(C)]
-#[derive(Drop)]
+#[derive(Clone, Copy)]
 pub struct CChained {
     pub refusal: u64,
     pub place: u64,
@@ -64,7 +66,7 @@ pub struct CChained {
 
 // What the join answers: the text that a refusal is of is 1 for the first, 2 for the second and 0 for neither.
 #[repr(C)]
-#[derive(Drop)]
+#[derive(Clone, Copy)]
 pub struct CJoined {
     pub refusal: u64,
     pub place: u64,

@@ -1,4 +1,6 @@
 // Free attributes of the words of a statement, bottom up.
+#![tactic(auto)]
+
 ghost use Rattle.std.specs.Prelude.{◌≡◌, ◌≤◌, ◌<◌, length};
 ghost use Rattle.slots.specs.Slots.{digit_at};
 ghost use Rattle.free.specs.Words.{is_leaf, at, below, terms, operator, free_word, Filled, Small};

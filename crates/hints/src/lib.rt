@@ -1,4 +1,6 @@
 // Parts in byte order, found by hints: a table proposes a place, and only the text that stands there decides.
+#![tactic(auto)]
+
 ghost use Rattle.std.specs.Prelude.{◌≡◌, true, ◌+◌, ◌≤◌, ◌<◌, length, get_or, take};
 ghost use Rattle.definition.specs.Text.{same};
 ghost use Rattle.definition.specs.Facts.{Ascending};

@@ -1,4 +1,6 @@
 // Names as numbers: bytes are compared here, once; the passes over names compare numbers.
+#![tactic(auto)]
+
 ghost use Rattle.std.specs.Prelude.{◌≡◌, ◌+◌, ◌-◌, ◌/◌, ◌≤◌, ◌<◌, length};
 ghost use Rattle.intern.specs.Entries.{start_of, text_at};
 ghost use Rattle.intern.specs.Numbers.{name_of, number_of, may_be_first, Numbered};

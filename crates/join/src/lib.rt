@@ -1,6 +1,8 @@
 // The join call: the second text is read after the first, the facts of both become an ascending set of numbers, and its lines are written.
 //
 // Of two texts a part has 0 or 1 for the one that it is of. A text is read as text 0, so between the two the parts read so far are turned.
+#![tactic(auto)]
+
 ghost use Rattle.std.specs.Prelude.{◌≡◌, ◌++◌, ◌≤◌, length, take};
 ghost use Rattle.definition.specs.Limits.{FACT_BYTES, document_01};
 ghost use Rattle.definition.specs.Accept.{Accepted};

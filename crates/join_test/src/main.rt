@@ -1,5 +1,7 @@
 // Prints what is answered where worked fact texts are joined: a line with the length, or the row, the place and the text of the refusal, and
 // how many bytes of the output are as they were; then the bytes that are not.
+#![tactic(auto)]
+
 ghost use Rattle.std.specs.Prelude.{◌≤◌, ◌+◌, length};
 
 use definition::Joined;

@@ -1,4 +1,6 @@
 // Kinds of names: rows 11, 5 and 6 in one walk over the words of a program.
+#![tactic(auto)]
+
 ghost use Rattle.std.specs.Prelude.{◌≡◌, ◌+◌, ◌≤◌, ◌<◌, length, get_or, set, take, List, map, ℕ};
 ghost use Rattle.definition.specs.Limits.{document_01};
 ghost use Rattle.definition.specs.Token.{Token};
@@ -12,7 +14,7 @@ use definition::Refusal;
 use words::{put_at, word_at};
 
 // What the use of a name leads to: what is known of it then, a new relation of so many terms, or row 11 or 5.
-#[derive(Drop)]
+#[derive(Clone, Copy)]
 pub enum Rule {
     Keep(u64),
     Fresh(u64),
@@ -21,7 +23,7 @@ pub enum Rule {
 }
 
 // The number of relations, or why the program is refused.
-#[derive(Drop)]
+#[derive(Clone, Copy)]
 pub enum Named {
     Done(usize),
     Refused(Refusal),

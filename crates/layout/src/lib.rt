@@ -1,4 +1,6 @@
 // Where the tables stand in the store: "Relations stand in the store of 64-bit words in order of first appearance".
+#![tactic(auto)]
+
 ghost use Rattle.std.specs.Prelude.{◌≡◌, map, ℕ, ◌+◌, ◌*◌, ◌≤◌, ◌<◌, length, get_or};
 ghost use Rattle.definition.specs.Text.{Text};
 ghost use Rattle.definition.specs.Limits.{document_01};
@@ -67,7 +69,7 @@ fn largest(relations: &[usize], u: u8) -> usize
 }
 
 // The first word of the table that an assignment makes, and the words needed in all.
-#[derive(Drop)]
+#[derive(Clone, Copy)]
 pub struct Room {
     pub scratch: usize,
     pub words: usize,

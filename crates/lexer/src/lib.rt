@@ -1,4 +1,6 @@
 // The tokens of a query text: one word a token, with its kind, the length of its text and its place.
+#![tactic(auto)]
+
 ghost use Rattle.std.specs.Prelude.{eqb, length, take, drop, get_or, set, cond, ◌||◌, [], ◌∷◌, ◌≡◌, ◌<◌, ◌≤◌, ◌+◌, ◌*◌, min};
 ghost use Rattle.definition.specs.Text.{Text, ascii, span, starts, is_letter, is_digit, is_part, is_blank, is_legal};
 ghost use Rattle.definition.specs.Token.{first_mark, marks, comment, quoted, word, numeral};
@@ -76,7 +78,7 @@ pub const NUMBER: u64 = 53;
 pub const LARGE_NUMBER: u64 = 54;
 
 // What begins at a place of the text: bytes that separate; a token's kind, the length of its text and its own length; or neither.
-#[derive(Drop)]
+#[derive(Clone, Copy)]
 enum Segment {
     Gap(usize),
     Lexeme(u64, usize, usize),
@@ -84,14 +86,14 @@ enum Segment {
 }
 
 // What the loop over the text found: the place where no token begins, or the number of tokens and the place of the 2,049th.
-#[derive(Drop)]
+#[derive(Clone, Copy)]
 enum Scan {
     Stopped(usize),
     Read(usize, usize),
 }
 
 // The lexer's answer: how many words hold tokens, or why the query is refused.
-#[derive(Drop)]
+#[derive(Clone, Copy)]
 pub enum Lexed {
     Tokens(usize),
     Refused(Refusal),

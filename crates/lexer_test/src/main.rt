@@ -1,5 +1,7 @@
 // Prints what the lexer makes of worked texts and of texts at its limits: a line for each, with the number of tokens and then kind, place and
 // text of each token, or the row and the place of the refusal.
+#![tactic(auto)]
+
 use lexer::{Lexed, lex};
 use libc::STDOUT_FILENO;
 use lines::{put, put_decimal};

@@ -1,4 +1,6 @@
 // Numbers and the line of a tuple put to a buffer, or only counted. A place past the buffer's end counts as the one just past it, so no count overflows.
+#![tactic(auto)]
+
 ghost use Rattle.std.specs.Prelude.{◌≡◌, [], ◌∷◌, ℕ, ◌+◌, ◌-◌, ◌≤◌, min, max, length, get_or, take, drop};
 ghost use Rattle.std.proofs.lemmas.List.Edits.{sets};
 ghost use Rattle.definition.specs.Text.{Text, gather};

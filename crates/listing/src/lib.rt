@@ -1,4 +1,6 @@
 // What the test programs print of lists, put to a buffer: tokens, words of a parsed program, and bytes.
+#![tactic(auto)]
+
 ghost use Rattle.std.specs.Prelude.{◌+◌, ◌≤◌, ◌≡◌, true, eqb, length, take};
 ghost use Rattle.definition.specs.Text.{keep, gather};
 ghost use Rattle.lines.specs.Put.{Put};
@@ -9,7 +11,7 @@ use lines::put;
 use page::put_number;
 
 // What the words of a list are: tokens of a query, or words of a parsed program.
-#[derive(Drop)]
+#[derive(Clone, Copy)]
 pub enum Item {
     Token,
     Word,

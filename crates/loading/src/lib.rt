@@ -1,4 +1,6 @@
 // The facts' tuples into the store: each fact is read again and put into the table of its relation.
+#![tactic(auto)]
+
 ghost use Rattle.std.specs.Prelude.{◌≡◌, List, ◌∷◌, ◌+◌, ◌-◌, ◌≤◌, ◌%◌, length, get_or, take, drop, replicate};
 ghost use Rattle.std.proofs.lemmas.List.Edits.{sets};
 ghost use Rattle.definition.specs.Limits.{FACT_BYTES, WORD_BYTES};

@@ -1,4 +1,6 @@
 // Lowering: each raw word of a statement becomes the word that evaluation and the step loop read, at the same place.
+#![tactic(auto)]
+
 ghost use Rattle.std.specs.Prelude.{◌≡◌, ◌-◌, ◌%◌, min, ◌<◌, ◌≤◌, length, get_or};
 ghost use Rattle.lowering.specs.Lowering.{lowered, four_bytes, slot_of, slots_of, slot_bit, mask, at, term_byte, label_place, depth_of, range_field, closure_field, comparison_field, operands_at, may_stand, all_stand, kind_field, node_p, p_field, token_values, number_of, quantity_field, expression_field, operand_field, count_field, lower_word, lower_at, Filled};
 

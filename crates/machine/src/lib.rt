@@ -1,4 +1,6 @@
 // The step loop over lowered words: it stops at a limit of steps or before a PRINT that does not fit, and goes on from there.
+#![tactic(auto)]
+
 ghost use Rattle.std.specs.Prelude.{◌≡◌, ℕ, ◌+◌, ◌-◌, ◌<◌, ◌≤◌, cond, List, length, get_or, set};
 ghost use Rattle.machine.specs.Actions.{members};
 ghost use Rattle.words.specs.Fields.{kind_of, PRINT};
@@ -164,7 +166,7 @@ fn step(
 }
 
 // What a step leaves: where the machine goes on, the bytes written, and whether it was a PRINT that does not fit.
-#[derive(Drop)]
+#[derive(Clone, Copy)]
 struct Acted {
     pc: usize,
     used: usize,
@@ -221,7 +223,7 @@ fn act<'a>(
 }
 
 // Where a run stands: its place in the words, its steps and its bytes. Its open FORs are in arrays beside it.
-#[derive(Drop)]
+#[derive(Clone, Copy)]
 pub struct Machine {
     pub pc: usize,
     pub steps: u32,
@@ -229,7 +231,7 @@ pub struct Machine {
 }
 
 // How the loop stopped, and where.
-#[derive(Drop)]
+#[derive(Clone, Copy)]
 pub struct Went {
     pub ending: Ending,
     pub machine: Machine,

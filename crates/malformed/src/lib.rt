@@ -1,4 +1,6 @@
 // Row 18: the patterns of a program, in the order of its text.
+#![tactic(auto)]
+
 ghost use Rattle.std.specs.Prelude.{not, List, ◌≡◌, ◌<◌, length};
 ghost use Rattle.definition.specs.Names.{program_patterns, pattern_rows};
 ghost use Rattle.definition.specs.Pattern.{well_formed};
@@ -15,7 +17,7 @@ use lexer::place;
 use patterns::read_pattern;
 use words::word_at;
 
-#[derive(Drop)]
+#[derive(Clone, Copy)]
 pub enum Formed {
     Fine,
     Refused(Refusal),

@@ -1,4 +1,6 @@
 // Whether an element matches a pattern.
+#![tactic(auto)]
+
 ghost use Rattle.std.specs.Prelude.{◌≡◌, ◌+◌, ◌-◌, ◌*◌, ◌^◌, ◌<◌, ◌≤◌, length, drop, get_or, true, cond};
 ghost use Rattle.std.specs.Int.Bits.{bit_or, bit_and};
 ghost use Rattle.definition.specs.Text.{Text};
@@ -150,7 +152,7 @@ fn further(b: u8, m: u8, n: u8) -> u64
 }
 
 // The turns that the repeat sign at i stands for.
-#[derive(Drop)]
+#[derive(Clone, Copy)]
 struct Sign {
     least: u64,
     further: u64,

@@ -1,10 +1,12 @@
 // A set of numbers, ascending in the first words of an array.
+#![tactic(auto)]
+
 ghost use Rattle.std.specs.Prelude.{◌≡◌, ◌∷◌, ◌++◌, ◌+◌, ◌≤◌, ◌<◌, length, take, drop};
 ghost use Rattle.numbers.specs.Sets.{Ascending, entered};
 ghost use Rattle.numbers.specs.Places.{entered_at, PlaceWithin};
 
 // Where a number stands in the set, or where it belongs.
-#[derive(Drop)]
+#[derive(Clone, Copy)]
 enum Place {
     Found(usize),
     New(usize),

@@ -1,4 +1,6 @@
 // What `relcalc` prints of an answer: the first bytes of the output, and the line that closes them.
+#![tactic(auto)]
+
 ghost use Rattle.std.specs.Prelude.{◌≡◌, true, [], ◌∷◌};
 ghost use Rattle.definition.specs.Answer.{ok, refusal, ending_word};
 ghost use Rattle.definition.specs.Decimals.{decimal};

@@ -1,4 +1,6 @@
 // A query text as its tokens and the words of its program, or why it is none.
+#![tactic(auto)]
+
 ghost use Rattle.std.specs.Prelude.{length, ◌≡◌, ◌≤◌};
 ghost use Rattle.parser.specs.Queries.{IsRead, Lexes, IsParsed, place_in, RefusedAt};
 
@@ -8,7 +10,7 @@ use statements::parse;
 use terms::Answer;
 
 // How many tokens and words there are, or why the query is refused.
-#[derive(Drop)]
+#[derive(Clone, Copy)]
 pub enum QueryRead {
     Read(usize, usize),
     Refused(Refusal),

@@ -1,5 +1,7 @@
 // Prints the words that worked queries give: a line for each, with the number of tokens and of words and then kind and three fields of each
 // word, or the row and the place of the refusal.
+#![tactic(auto)]
+
 use libc::STDOUT_FILENO;
 use lines::{put, put_decimal};
 use listing::{Item, put_items};

@@ -1,4 +1,6 @@
 // Parts of two texts as numbers, and lists of them: names and elements.
+#![tactic(auto)]
+
 ghost use Rattle.std.specs.Prelude.{◌≡◌, ◌∷◌, ◌++◌, ◌+◌, ◌≤◌, ◌<◌, length, take, drop};
 ghost use Rattle.parts.specs.Packed.{pack, text_of};
 ghost use Rattle.definition.specs.Facts.{Ascending};
@@ -66,7 +68,7 @@ pub fn index_of<'a>(facts: &'a [u8], query: &'a [u8], parts: &[usize], v: usize)
 }
 
 // Where a part stands in a sorted list, or where it belongs.
-#[derive(Drop)]
+#[derive(Clone, Copy)]
 pub enum Place {
     Found(usize),
     New(usize),
@@ -121,7 +123,7 @@ fn insert_at(words: &mut [usize], p: usize, n: usize, v: usize)
 }
 
 // How many parts a sorted list has with one more, or that there is no room for it.
-#[derive(Drop)]
+#[derive(Clone, Copy)]
 pub enum Entered {
     Count(usize),
     Full,

@@ -1,4 +1,6 @@
 // Parts of the facts `R C10 "C2"` and of the query `C2 C1`, proved and run.
+#![tactic(auto)]
+
 ghost use Rattle.std.specs.Prelude.{◌≤◌, ◌≡◌, [], ◌∷◌, ◌++◌, length, take, drop};
 ghost use Rattle.definition.specs.Text.{ascii};
 ghost use Rattle.parts.specs.Packed.{text_of};

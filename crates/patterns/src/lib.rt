@@ -1,4 +1,6 @@
 // Patterns as they stand in a query: whether one is well formed, by descent over its bytes.
+#![tactic(auto)]
+
 ghost use Rattle.std.specs.Prelude.{◌≡◌, Bool, not, eqb, ◌+◌, ◌≤◌, ◌<◌, length, drop, get_or};
 ghost use Rattle.definition.specs.Text.{some_of};
 ghost use Rattle.definition.specs.Pattern.{Pattern, branches, branch, piece, atom, is_character, no_class, ends_branch, read_repeat, read_count, read_set, well_formed};
@@ -6,7 +8,7 @@ ghost use Rattle.patterns.specs.Ends.{ends, end_at, simple_at, is_listed, to_clo
 ghost use Rattle.intern.specs.Entries.{text_at};
 
 // Where a phrase that starts at a place ends, if one does.
-#[derive(Drop)]
+#[derive(Clone, Copy)]
 pub enum Next {
     At(usize),
     Wrong,

@@ -1,4 +1,6 @@
 // Two PRINTs over the facts `R a "b"`, proved and run.
+#![tactic(auto)]
+
 ghost use Rattle.std.specs.Prelude.{[], ◌∷◌};
 ghost use Rattle.definition.specs.Text.{ascii};
 ghost use Rattle.eval.specs.Meaning.{world};

@@ -1,9 +1,11 @@
 // A ratio reduced, by the greatest common divisor of its parts.
+#![tactic(auto)]
+
 ghost use Rattle.std.specs.Prelude.{◌≡◌, ◌/◌};
 ghost use Rattle.definition.specs.Decimals.{gcd};
 
 // The two parts of a ratio.
-#[derive(Drop)]
+#[derive(Clone, Copy)]
 pub struct Ratio {
     pub top: u64,
     pub bottom: u64,

@@ -1,4 +1,6 @@
 // Worked lines of `ratios`, proved and run.
+#![tactic(auto)]
+
 use check::expect;
 use ratios::{gcd, reduced};
 

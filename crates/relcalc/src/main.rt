@@ -1,4 +1,6 @@
 // Reads facts.rsf and query.rml in its working directory, runs the query and prints the page, then how the run ended.
+#![tactic(auto)]
+
 ghost use Rattle.std.specs.Prelude.{◌≤◌, length};
 ghost use Rattle.page.specs.Closing.{LINE_BYTES};
 ghost use Rattle.relcalc.specs.Prints.{Prints};
@@ -19,7 +21,7 @@ fn read_file(path: &[u8], buf: &mut [u8]) -> usize
 }
 
 // What is printed: so many bytes of the output, then so many of the line.
-#[derive(Drop)]
+#[derive(Clone, Copy)]
 struct Printed {
     output: usize,
     line: usize,

@@ -1,4 +1,6 @@
 // The calls of the calculator for hosts in C, Rust and Python. Answers are structs of numbers.
+#![tactic(auto)]
+
 ghost use Rattle.std.specs.Prelude.{◌≡◌};
 ghost use Rattle.definition.specs.Limits.{document_01};
 ghost use Rattle.definition.specs.Calls.{element};

@@ -1,4 +1,6 @@
 // Rows 13 and 12 of each statement, in the order of the text.
+#![tactic(auto)]
+
 ghost use Rattle.std.specs.Prelude.{◌≡◌, List, Bool, ℕ, ◌+◌, ◌-◌, ◌≤◌, ◌<◌, length, get_or, drop};
 ghost use Rattle.definition.specs.Answer.{Answer};
 ghost use Rattle.definition.specs.Syntax.{Program, Expression};
@@ -16,14 +18,14 @@ use slots::Found;
 use words::{word_at, word_before};
 
 // Whether statements keep the limits, or why they are refused.
-#[derive(Drop)]
+#[derive(Clone, Copy)]
 pub enum Ruled {
     Fine,
     Refused(Refusal),
 }
 
 // Where the next open part begins, or why a statement is refused.
-#[derive(Drop)]
+#[derive(Clone, Copy)]
 pub enum Turn {
     On(usize),
     Stop(Refusal),

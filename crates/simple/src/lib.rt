@@ -1,4 +1,6 @@
 // Statements without blocks: assignments and PRINT, as words.
+#![tactic(auto)]
+
 ghost use Rattle.std.specs.Prelude.{length, get_or, ◌≡◌, ◌+◌, ◌-◌, ◌*◌, ◌<◌, ◌≤◌};
 ghost use Rattle.lexer.specs.Tokens.{at_of};
 ghost use Rattle.simple.specs.Statements.{Places, terms_in, asserted, Asserts, FinishRoom, Finished, ItemRoom, ItemClosed, Unworded, Plainly, Alone, Worded, IsItem, IsStatement};

@@ -1,11 +1,13 @@
 // The attribute names of a statement, and its closures.
+#![tactic(auto)]
+
 ghost use Rattle.std.specs.Prelude.{◌≡◌, ℕ, ◌≤◌, List, [], take};
 ghost use Rattle.slots.specs.Slots.{takes, of_loop, add_name, add_word, names_of, Holds, place_from, digit_at, one_closure, closure_count};
 
 use words::word_at;
 
 // Up to four names in order of first occurrence; a count of 5 stands for more.
-#[derive(Drop)]
+#[derive(Clone, Copy)]
 pub struct Found {
     pub names: [u64; 4],
     pub count: usize,

@@ -1,5 +1,7 @@
 // Statements with blocks, and the whole program, as words with the places to go on at. A word that goes to a place behind a block is left
 // free, and set once the block is read.
+#![tactic(auto)]
+
 ghost use Rattle.std.specs.Prelude.{length, ◌≡◌, ◌+◌, ◌<◌, ◌≤◌};
 ghost use Rattle.simple.specs.Statements.{Places, IsStatement};
 ghost use Rattle.statements.specs.Blocks.{Begins, IsSequence, IsBlock, IsElse, Headed, Space, Tested, Repeated, Ranged, IsProgram};

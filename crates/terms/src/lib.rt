@@ -1,5 +1,7 @@
 // The smallest phrases of a query: terms, lists of terms, and the atoms made of them. A token is one word, and what is read is written
 // to an array of words in the order of the tokens.
+#![tactic(auto)]
+
 ghost use Rattle.std.specs.Prelude.{◌≡◌, [], ◌∷◌, ℕ, ◌+◌, ◌-◌, ◌<◌, ◌≤◌, length};
 ghost use Rattle.std.proofs.lemmas.List.Edits.{sets};
 ghost use Rattle.terms.specs.Phrases.{kind_in, closed, Room, IsPrimary};
@@ -9,7 +11,7 @@ ghost use Rattle.words.specs.Fields.{word};
 use words::pack;
 
 // What a function that reads a phrase answers: the next token and how many words stand in the array; or the row of the refusal and its token.
-#[derive(Drop)]
+#[derive(Clone, Copy)]
 pub enum Answer {
     Read(usize, usize),
     Refused(usize, usize),

@@ -1,4 +1,6 @@
 // Texts as slices of bytes: their order and equality, the classes of bytes, the reserved words, names, the value of digits.
+#![tactic(auto)]
+
 ghost use Rattle.std.specs.Prelude.{◌≡◌, true, false, [], ◌∷◌, ℕ, ◌+◌, ◌-◌, ◌*◌, ◌≤◌, ◌<◌, min, length, drop};
 ghost use Rattle.definition.specs.Text.{same, starts, span, member, reserved, is_letter, is_part, is_legal, is_blank, needs_quotes, is_name, between};
 ghost use Rattle.definition.specs.Token.{word_terminal, FIRST_WORD, value};
@@ -6,7 +8,7 @@ ghost use Rattle.texts.specs.Orders.{order};
 ghost use Rattle.texts.specs.Classes.{is_of};
 ghost use Rattle.texts.specs.Words.{is_reserved, terminal_of, index_of};
 
-#[derive(Drop)]
+#[derive(Clone, Copy)]
 pub enum Order {
     Before,
     Same,
@@ -65,7 +67,7 @@ pub fn starts_with(l: &[u8], b: u8) -> bool
 }
 
 // The classes of bytes that runs are made of. Inside: no blank. Printable: 32 to 126. InString: neither a quote nor byte 10. Bare: neither a quote nor a blank.
-#[derive(Drop)]
+#[derive(Clone, Copy)]
 pub enum Class {
     Blank,
     Inside,
@@ -200,7 +202,7 @@ const LENGTHS: [usize; 26] = [
 ];
 
 // What a word is: a reserved one, with its index in the table, or none.
-#[derive(Drop)]
+#[derive(Clone, Copy)]
 pub enum Word {
     Reserved(usize),
     Identifier,

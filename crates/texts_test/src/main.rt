@@ -1,4 +1,6 @@
 // Texts at the edges of the rules: each check is proved from the contracts, and run.
+#![tactic(auto)]
+
 ghost use Rattle.std.specs.Prelude.{◌+◌, ◌≤◌, min, ◌≡◌, length, drop};
 ghost use Rattle.definition.specs.Text.{span, needs_quotes, is_name};
 ghost use Rattle.definition.specs.Text.{same as Text·same};

@@ -1,4 +1,6 @@
 // Tuples of up to 4 elements by their numbers, and the words of a relation's table. The arity is a number throughout.
+#![tactic(auto)]
+
 ghost use Rattle.std.specs.Prelude.{◌≡◌, ◌+◌, ◌≤◌, ◌<◌, ◌^◌, length, take, drop};
 ghost use Rattle.std.proofs.lemmas.List.Edits.{sets};
 ghost use Rattle.definition.specs.Tables.{holds, table_words};

@@ -1,4 +1,6 @@
 // Worked lines of `tuples`, proved and run: one relation of each arity in a universe of 4 elements.
+#![tactic(auto)]
+
 ghost use Rattle.std.specs.Prelude.{◌+◌, ◌≤◌, ◌≡◌, length, take, drop};
 ghost use Rattle.std.proofs.lemmas.List.Edits.{sets};
 ghost use Rattle.tuples.specs.Places.{with_tuple};

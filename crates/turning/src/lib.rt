@@ -1,5 +1,7 @@
 // Parts of two texts as parts of them in the other order. A text is read as text 0, so where another is read after it the parts so far are
 // turned.
+#![tactic(auto)]
+
 ghost use Rattle.std.specs.Prelude.{◌≡◌, map};
 ghost use Rattle.turning.specs.Turned.{turned};
 

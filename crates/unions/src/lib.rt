@@ -1,5 +1,7 @@
 // The text of a union: the relations in byte order of name, their tuples by number, a line for each. The lines are measured first and then
 // written, since a text that does not fit is refused with its whole length.
+#![tactic(auto)]
+
 ghost use Rattle.std.specs.Prelude.{◌≡◌, [], ◌∷◌, ◌+◌, ◌*◌, ◌^◌, ◌%◌, ◌≤◌, ◌<◌, length, take};
 ghost use Rattle.definition.specs.Calls.{join_meets};
 ghost use Rattle.definition.specs.Join.{of_text, right, within_room};

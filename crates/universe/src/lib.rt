@@ -1,4 +1,6 @@
 // The universe: "the set of elements in the facts plus the strings on any left-hand side, run or not".
+#![tactic(auto)]
+
 ghost use Rattle.std.specs.Prelude.{◌≡◌, List, [], ◌∷◌, ℕ, ◌+◌, ◌≤◌, ◌<◌, length, get_or};
 ghost use Rattle.definition.specs.Token.{Token};
 ghost use Rattle.definition.specs.Syntax.{Program};
@@ -28,7 +30,7 @@ fn string_word(query: &[u8], t: u64) -> usize
 }
 
 // How many elements there are with the strings, or the place of the one for which there is no room.
-#[derive(Drop)]
+#[derive(Clone, Copy)]
 pub enum Strings {
     Count(usize),
     Full(usize),

@@ -1,0 +1,35 @@
+use mathlib.Core.Path.{refl}
+use Rattle.actions.specs.Parts.{is_statement}
+use Rattle.actions.proofs.Parts.{no_statement}
+use Rattle.actions.proofs.statement.Goals as goal
+
+pub returns-in-6 : goal.returns-in-6
+unfolding is_statement
+returns-in-6 c = rw c.in-6.keys1 refl
+
+pub returns-in-7 : goal.returns-in-7
+unfolding is_statement
+returns-in-7 c = rw c.in-7.keys2 refl
+
+pub returns-in-33 : goal.returns-in-33
+unfolding is_statement
+returns-in-33 c = rw c.in-33.keys3 refl
+
+pub returns-in-34 : goal.returns-in-34
+unfolding is_statement
+returns-in-34 c = rw c.in-34.keys4 refl
+
+pub returns-in-35 : goal.returns-in-35
+unfolding is_statement
+returns-in-35 c = rw c.in-35.keys5 refl
+
+pub returns-in-36 : goal.returns-in-36
+unfolding is_statement
+returns-in-36 c = rw c.in-36.keys6 refl
+
+pub returns-in-37 : goal.returns-in-37
+unfolding is_statement
+returns-in-37 c = rw c.in-37.keys7 refl
+
+pub returns-in_default : goal.returns-in_default
+returns-in_default c = no_statement _ c.in_default.rest

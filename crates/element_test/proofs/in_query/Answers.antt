@@ -1,0 +1,11 @@
+use Rattle.element_test.proofs.Places.{part_is, value_is, address_is, text_is}
+use Rattle.element_test.proofs.in_query.Goals as goal
+
+pub expect-requires : goal.expect-requires
+expect-requires c = c.same.ensures.1 (value_is c.requires c.element-part.ensures.text)
+
+pub is_part-requires : goal.is_part-requires
+is_part-requires c = let e = c.element-part.ensures in (c.requires.inside, (part_is c.requires e.0, address_is c.requires c.args.facts.ref_ptr c.args.query.ref_ptr e.1))
+
+pub has_text-requires : goal.has_text-requires
+has_text-requires c = text_is c.requires

@@ -1,0 +1,10 @@
+use Prim.Native.Nat.{◌-◌}
+use lib.ListN.{length}
+use Rattle.expressions.proofs.QuantifierLaws.{Attributes}
+use Rattle.expressions.proofs.attributes.Given as goal
+
+abbrev pub invariant-loop-p : goal.invariant-loop-p
+invariant-loop-p l = Attributes l.tokens l.p l.n l.initial.words l.words l.q l.m
+
+abbrev pub decreases-loop-p : goal.decreases-loop-p
+decreases-loop-p l = length l.tokens - l.q

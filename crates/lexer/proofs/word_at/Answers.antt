@@ -1,0 +1,35 @@
+use mathlib.Core.Path.{sym, subst, ◌∙◌}
+use Prim.Native.Nat.{◌-◌, ◌<◌}
+use native.Mathlib.Omega.{arith}
+use lib.ListN.{drop}
+use Rattle.texts.specs.declared.Word.{Word}
+use Rattle.texts.specs.Words.{index_of}
+use Rattle.lexer.proofs.Identifiers.{word_long, word_any, word_reserved, word_name, any_packs, reserved_packs, name_packs}
+use Rattle.lexer.proofs.word_at.Goals as goal
+
+pub returns-then-n-gt32 : goal.returns-then-n-gt32
+returns-then-n-gt32 c = let a = c.args in
+    let e = c.run_end-end in
+    record { value = word_long (drop a.at a.text.now) (e.result - a.at) (omega (arith, e.ensures.0)) c.if-n-gt32.true; small = tt }
+
+pub returns-then-same : goal.returns-then-same
+returns-then-same c = let a = c.args in
+    let e = c.run_end-end in record { value = word_any (drop a.at a.text.now) (e.result - a.at) (omega (arith, e.ensures.0)) c.if-n-gt32.false (sym c.same.ensures ∙ c.if-same.true); small = any_packs }
+
+pub overflow_add-result : goal.overflow_add-result
+overflow_add-result c = let h = subst (λ (w : Word). index_of w < 26) c.k-1.given.1 c.reserved_word.ensures.terminal.1 in
+    omega arith
+
+pub returns-in-Reserved : goal.returns-in-Reserved
+returns-in-Reserved c = let a = c.args in
+    let e = c.run_end-end in
+    let w = c.reserved_word in
+    let k = c.k-1.given in
+    let h = subst (λ (w : Word). index_of w < 26) k.1 w.ensures.1.1 in record { value = word_reserved (drop a.at a.text.now) (e.result - a.at) (omega (arith, e.ensures.0)) c.if-n-gt32.false k.0.0 h
+          (sym c.same.ensures ∙ c.if-same.false) (λ i. w.ensures.1.0 i ∙ rw k.1); small = reserved_packs k.0.0 (e.result - a.at) h c.if-n-gt32.false }
+
+pub returns-in-Identifier : goal.returns-in-Identifier
+returns-in-Identifier c = let a = c.args in
+    let e = c.run_end-end in
+    let w = c.reserved_word in record { value = word_name (drop a.at a.text.now) (e.result - a.at) (omega (arith, e.ensures.0)) c.if-n-gt32.false
+          (sym c.same.ensures ∙ c.if-same.false) (λ i. w.ensures.1.0 i ∙ rw c.enum_told-1.given.1); small = name_packs (e.result - a.at) c.if-n-gt32.false }

@@ -1,0 +1,37 @@
+use mathlib.Core.Path.{◌≡◌, refl}
+use native.Mathlib.Omega.{arith}
+use Prim.Native.Nat.{ℕ, ◌-◌}
+use lib.ListN.{length, get_or, length-set}
+use Rattle.matching.proofs.RowLaws.{upto_none, upto_more, upto_all}
+use Rattle.matching.proofs.copy.Goals as goal
+
+pub loop-i-init : goal.loop-i-init
+loop-i-init c = (upto_none (λ (i a r : ℕ). r ≡ get_or c.args.other.now i 0) c.args.rows.now, refl, omega arith)
+
+pub offset_bounds-other-i : goal.offset_bounds-other-i
+offset_bounds-other-i c = omega arith
+
+pub bounds-other-i : goal.bounds-other-i
+bounds-other-i c = omega arith
+
+pub offset_bounds-rows-i : goal.offset_bounds-rows-i
+offset_bounds-rows-i c = omega arith
+
+pub bounds-rows-i : goal.bounds-rows-i
+bounds-rows-i c = omega arith
+
+pub overflow_step-i : goal.overflow_step-i
+overflow_step-i c = omega arith
+
+pub loop-i-smaller : goal.loop-i-smaller
+loop-i-smaller c = omega arith
+
+pub loop-i-preserved : goal.loop-i-preserved
+loop-i-preserved c = let u = c.loop-i.invariant.0 in
+    (upto_more (λ (i a r : ℕ). r ≡ get_or c.args.other.now i 0) c.loop-i.i c.args.rows.now c.loop-i.rows (get_or c.args.other.now c.loop-i.i 0) u (let h = u.long in omega (arith, h)) (refl), simp length-set (omega arith), omega arith)
+
+pub shape_of-rows : goal.shape_of-rows
+shape_of-rows c = omega arith
+
+pub returns : goal.returns
+returns c = let u = c.loop-i.invariant.0 in upto_all (λ (i a r : ℕ). r ≡ get_or c.args.other.now i 0) c.loop-i.i c.args.rows.now c.loop-i.rows u (let h = u.long in omega (arith, h))

@@ -1,0 +1,8 @@
+use mathlib.Core.Path.{ap}
+use mathlib.Core.Bool.{not}
+use Rattle.definition.specs.Pattern.{is_character}
+use Rattle.patterns.proofs.is_character.Goals as goal
+
+pub returns : goal.returns
+unfolding is_character
+returns c = ap not c.among.ensures

@@ -1,0 +1,37 @@
+use mathlib.Core.Path.{refl}
+use borrow.Author.Tests.{ne_eqb}
+use Rattle.words.specs.Parts.{ends}
+use Rattle.rows.proofs.ends.Goals as goal
+
+pub returns-in-6 : goal.returns-in-6
+unfolding ends
+returns-in-6 c = rw c.in-6.keys1 refl
+
+pub returns-in-7 : goal.returns-in-7
+unfolding ends
+returns-in-7 c = rw c.in-7.keys2 refl
+
+pub returns-in-33 : goal.returns-in-33
+unfolding ends
+returns-in-33 c = rw c.in-33.keys3 refl
+
+pub returns-in-34 : goal.returns-in-34
+unfolding ends
+returns-in-34 c = rw c.in-34.keys4 refl
+
+pub returns-in-35 : goal.returns-in-35
+unfolding ends
+returns-in-35 c = rw c.in-35.keys5 refl
+
+pub returns-in-36 : goal.returns-in-36
+unfolding ends
+returns-in-36 c = rw c.in-36.keys6 refl
+
+pub returns-in-37 : goal.returns-in-37
+unfolding ends
+returns-in-37 c = rw c.in-37.keys7 refl
+
+pub returns-in_default : goal.returns-in_default
+unfolding ends
+returns-in_default c = let z = c.in_default.rest in
+    simp (ne_eqb _ _ z.0.0.0.0.0.0.1, ne_eqb _ _ z.0.0.0.0.0.1, ne_eqb _ _ z.0.0.0.0.1, ne_eqb _ _ z.0.0.0.1, ne_eqb _ _ z.0.0.1, ne_eqb _ _ z.0.1, ne_eqb _ _ z.1)
