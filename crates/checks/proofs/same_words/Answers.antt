@@ -15,8 +15,6 @@ Alike a b k = get_or a k 0 ≡ get_or b k 0
 never : {X : Type 0} → false ≡ true → X
 never e = let z : ◌≡◌ {A = ℕ} 0 1 = cc in absurd (omega arith)
 
--- lists of different lengths, or with a word that differs, are not equal
-
 pub returns-then-a-b : goal.returns-then-a-b
 returns-then-a-b c = (λ e. never e, λ e. absurd (c.if-a-b.true (ap length e)))
 

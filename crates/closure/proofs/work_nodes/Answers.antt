@@ -21,7 +21,7 @@ loop-node-smaller c = omega arith
 pub loop-node-preserved : goal.loop-node-preserved
 loop-node-preserved c = let L = c.loop-node in
     let w = c.work_node.ensures in
-    (w.1 _ L.invariant.0, rows_through L.node L.rows _ w.0, omega arith)
+    (w.by_index _ L.invariant.0, rows_through L.node L.rows _ w.rows_after, omega arith)
 
 pub shape_of-rows : goal.shape_of-rows
 shape_of-rows c = worked_length _ c.loop-node.node _ c.loop-node.invariant.0

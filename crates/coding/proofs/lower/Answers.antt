@@ -6,7 +6,7 @@ use Rattle.coding.proofs.Passing.{start_le, going_start, going_on, going_turn, g
 use Rattle.coding.proofs.lower.Goals as goal
 
 pub loop-k-init : goal.loop-k-init
-loop-k-init c = (omega arith, refl, refl, refl, c.requires.shallow.1, going_start _ _ _ _ _ _ _ _ _ _ c.requires.shallow.0)
+loop-k-init c = (omega arith, refl, refl, refl, c.requires.small, going_start _ _ _ _ _ _ _ _ _ _ c.requires.shallow)
 
 pub offset_bounds-words-k : goal.offset_bounds-words-k
 offset_bounds-words-k c = omega arith
@@ -26,7 +26,7 @@ loop-k-smaller-then-not-statement c = omega arith
 pub loop-k-preserved-then-not-statement : goal.loop-k-preserved-then-not-statement
 loop-k-preserved-then-not-statement c = let l = c.loop-k in
     let i = l.invariant in
-    (omega arith, i.1, i.2, i.3, i.4, going_on _ _ _ _ _ _ _ _ _ _ _ _ _ _ l.k _ c.loop-k-test.true refl i.5 (sym c.statement.ensures ∙ not-true _ c.if-not-statement.true))
+    (omega arith, i.1, i.2, i.3, i.4, going_on _ _ _ _ _ _ _ _ _ _ _ _ _ _ l.k _ c.loop-k-test.true refl i.5 (sym c.statement.ensures ∙ not-true _ c.if-not-statement.true-raw))
 
 pub note_depth-deep-requires : goal.note_depth-deep-requires
 note_depth-deep-requires c = let g = c.loop-k.invariant.5 in
@@ -36,7 +36,7 @@ pub lower_statement-requires : goal.lower_statement-requires
 lower_statement-requires c = let l = c.loop-k in
     let i = l.invariant in
     let p = c.requires.tokens_in_bounds in
-    ((omega (arith, i.5.begins, start_le c.args.words.now l.k), (c.loop-k-test.true, (omega arith, (omega arith, omega (arith, i.5.same_length))))), (c.note_depth-deep.ensures.shallow_2, i.4))
+    record { s_le_k = (omega (arith, i.5.begins, start_le c.args.words.now l.k), (c.loop-k-test.true, (omega arith, (omega arith, omega (arith, i.5.same_length))))); shallow = c.note_depth-deep.ensures.shallow_2; small = i.4 }
 
 pub overflow_add-k-in-loop-k : goal.overflow_add-k-in-loop-k
 overflow_add-k-in-loop-k c = omega (arith, c.loop-k-test.true, c.requires.tokens_in_bounds)
@@ -53,7 +53,7 @@ loop-k-preserved c = let l = c.loop-k in
       omega (arith, c.fr-1.given, i.3),
       c.lower_statement.ensures.small_2,
       going_turn _ _ _ _ _ _ _ _ _ _ _ _ _ _ l.k _ c.loop-k-test.true refl i.5 _ _ _ c.note_depth-deep.ensures.depths_value.0 c.note_depth-deep.ensures.depths_value.1.0 c.lower_statement.ensures.turned
-          (sym c.statement.ensures ∙ not-false _ c.if-not-statement.false) c.note_depth-deep.ensures.depths_value.1.1 c.note_depth-deep.ensures.shallow_2,
+          (sym c.statement.ensures ∙ not-false _ c.if-not-statement.false-raw) c.note_depth-deep.ensures.depths_value.1.1 c.note_depth-deep.ensures.shallow_2,
     )
 
 pub shape_of-depths : goal.shape_of-depths

@@ -8,36 +8,36 @@ use borrow.Author.Rules.{rules}
 use Rattle.engine.proofs.read.Goals as goal
 
 pub accept-requires : goal.accept-requires
-accept-requires c = ((search rules, search rules), ((refl, refl), ((refl, (refl, search rules)), c.requires.small)))
+accept-requires c = record { relations_len = (search rules, search rules); tokens_len = (refl, refl); ids_len = (refl, (refl, search rules)); small = c.requires.small }
 
 pub slice_bounds-tokens-end : goal.slice_bounds-tokens-end
-slice_bounds-tokens-end c = let t = taken _ _ _ _ _ _ _ _ c.accept.ensures _ c.s-1.given.1 in t.sized.tokens_inside
+slice_bounds-tokens-end c = let t = taken _ _ _ _ _ _ _ _ c.accept.ensures _ c.in-Accepted.is in t.sized.tokens_inside
 
 pub slice_bounds-translate-end : goal.slice_bounds-translate-end
-slice_bounds-translate-end c = let t = taken _ _ _ _ _ _ _ _ c.accept.ensures _ c.s-1.given.1 in sym (length-take-le _ _ t.sized.tokens_inside)
+slice_bounds-translate-end c = let t = taken _ _ _ _ _ _ _ _ c.accept.ensures _ c.in-Accepted.is in sym (length-take-le _ _ t.sized.tokens_inside)
 
 pub slice_bounds-words-end : goal.slice_bounds-words-end
-slice_bounds-words-end c = let t = taken _ _ _ _ _ _ _ _ c.accept.ensures _ c.s-1.given.1 in t.sized.words_inside
+slice_bounds-words-end c = let t = taken _ _ _ _ _ _ _ _ c.accept.ensures _ c.in-Accepted.is in t.sized.words_inside
 
 pub slice_bounds-translate-end-in-Accepted : goal.slice_bounds-translate-end-in-Accepted
-slice_bounds-translate-end-in-Accepted c = let t = taken _ _ _ _ _ _ _ _ c.accept.ensures _ c.s-1.given.1 in sym (length-take-le _ _ t.sized.words_inside)
+slice_bounds-translate-end-in-Accepted c = let t = taken _ _ _ _ _ _ _ _ c.accept.ensures _ c.in-Accepted.is in sym (length-take-le _ _ t.sized.words_inside)
 
 pub slice_bounds-translate-end-in-Accepted-4 : goal.slice_bounds-translate-end-in-Accepted-4
-slice_bounds-translate-end-in-Accepted-4 c = let t = taken _ _ _ _ _ _ _ _ c.accept.ensures _ c.s-1.given.1 in t.sized.places_inside
+slice_bounds-translate-end-in-Accepted-4 c = let t = taken _ _ _ _ _ _ _ _ c.accept.ensures _ c.in-Accepted.is in t.sized.places_inside
 
 pub slice_bounds-translate-end-in-Accepted-5 : goal.slice_bounds-translate-end-in-Accepted-5
-slice_bounds-translate-end-in-Accepted-5 c = let t = taken _ _ _ _ _ _ _ _ c.accept.ensures _ c.s-1.given.1 in sym (length-take-le _ _ t.sized.places_inside)
+slice_bounds-translate-end-in-Accepted-5 c = let t = taken _ _ _ _ _ _ _ _ c.accept.ensures _ c.in-Accepted.is in sym (length-take-le _ _ t.sized.places_inside)
 
 pub overflow_cast-s : goal.overflow_cast-s
-overflow_cast-s c = let t = taken _ _ _ _ _ _ _ _ c.accept.ensures _ c.s-1.given.1 in omega (arith, (few_sized _ _ _ _ _ _ _ _ _ t.w t.sized).0)
+overflow_cast-s c = let t = taken _ _ _ _ _ _ _ _ c.accept.ensures _ c.in-Accepted.is in omega (arith, (few_sized _ _ _ _ _ _ _ _ _ t.w t.sized).0)
 
 pub translate-requires : goal.translate-requires
-translate-requires c = let t = taken _ _ _ _ _ _ _ _ c.accept.ensures _ c.s-1.given.1 in (t.sized.reading.few_tokens, t.sized.reading.few_words, omega (arith, c.requires.relations_len))
+translate-requires c = let t = taken _ _ _ _ _ _ _ _ c.accept.ensures _ c.in-Accepted.is in (t.sized.reading.few_tokens, t.sized.reading.few_words, omega (arith, c.requires.relations_len))
 
 pub returns-in-Refused : goal.returns-in-Refused
-returns-in-Refused c = refuses (not_taken _ _ _ _ _ _ _ _ c.accept.ensures _ c.q-1.given.1)
+returns-in-Refused c = refuses (not_taken _ _ _ _ _ _ _ _ c.accept.ensures _ c.in-Refused.is)
 
 pub returns-in-Accepted : goal.returns-in-Accepted
-returns-in-Accepted c = let t = taken _ _ _ _ _ _ _ _ c.accept.ensures _ c.s-1.given.1 in
+returns-in-Accepted c = let t = taken _ _ _ _ _ _ _ _ c.accept.ensures _ c.in-Accepted.is in
     prepared t.w
     (fits_so _ _ _ _ _ _ _ _ _ t.w t.sized _ refl _ (omega (arith, (few_sized _ _ _ _ _ _ _ _ _ t.w t.sized).1, same-length-4 c, same-length-5 c, same-length-6 c, c.requires.relations_len)) c.translate.ensures)

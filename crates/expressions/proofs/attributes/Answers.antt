@@ -34,3 +34,36 @@ returns-then-kind_at-ne6-2 c = attributes_end c.loop-p.invariant c.pack.ensures 
 
 pub loop-p-preserved : goal.loop-p-preserved
 loop-p-preserved c = attributes_on c.loop-p.invariant c.pack.ensures (sym c.kind_at-in-loop-p.ensures ∙ c.if-kind_at-ne47-2.false) (sym c.kind_at-in-loop-p-2.ensures ∙ c.if-kind_at-ne6-2.false)
+
+pub overflow_add-p : goal.overflow_add-p
+overflow_add-p c = omega arith
+
+pub overflow_add-result : goal.overflow_add-result
+overflow_add-result c = omega arith
+
+pub overflow_add-p-2 : goal.overflow_add-p-2
+overflow_add-p-2 c = omega arith
+
+pub overflow_add-result-then-kind_at-ne6 : goal.overflow_add-result-then-kind_at-ne6
+overflow_add-result-then-kind_at-ne6 c = omega arith
+
+pub overflow_add-q : goal.overflow_add-q
+overflow_add-q c = omega arith
+
+pub pack-requires : goal.pack-requires
+pack-requires c = omega arith
+
+pub offset_bounds-words-m : goal.offset_bounds-words-m
+offset_bounds-words-m c = omega arith
+
+pub overflow_add-m : goal.overflow_add-m
+overflow_add-m c = omega arith
+
+pub overflow_add-q-in-loop-p : goal.overflow_add-q-in-loop-p
+overflow_add-q-in-loop-p c = omega arith
+
+pub overflow_add-q-in-loop-p-2 : goal.overflow_add-q-in-loop-p-2
+overflow_add-q-in-loop-p-2 c = omega arith
+
+pub loop-p-smaller : goal.loop-p-smaller
+loop-p-smaller c = omega arith

@@ -6,7 +6,7 @@ use Rattle.terms.specs.declared.Answer.TheVariants.{Read}
 use Rattle.expressions.proofs.bind.Goals as goal
 
 pub loop-i-init : goal.loop-i-init
-loop-i-init c = binding_starts (rw c.a-1.given.1 at c.requires)
+loop-i-init c = binding_starts (rw c.in-Read.is at c.requires)
 
 pub overflow_sub-k : goal.overflow_sub-k
 overflow_sub-k c = let s = c.loop-i.invariant.space in omega arith
@@ -30,7 +30,13 @@ pub shape_of-words : goal.shape_of-words
 shape_of-words c = c.loop-i.invariant.long
 
 pub returns-after-loop-i : goal.returns-after-loop-i
-returns-after-loop-i c = let h = binding_ends c.loop-i.invariant c.loop-i-test.false in rw c.a-1.given.1 (ap (Read c.a-1.given.0.0) h.0, h.1)
+returns-after-loop-i c = let h = binding_ends c.loop-i.invariant c.loop-i-test.false in rw c.in-Read.is (ap (Read c.in-Read.q) h.0, h.1)
 
 pub returns-in-Refused : goal.returns-in-Refused
-returns-in-Refused c = rw c.a-in-Refused-1.given.1 refl
+returns-in-Refused c = rw c.in-Refused.is refl
+
+pub overflow_sub-i : goal.overflow_sub-i
+overflow_sub-i c = omega arith
+
+pub loop-i-smaller : goal.loop-i-smaller
+loop-i-smaller c = omega arith

@@ -8,7 +8,7 @@ use Rattle.facts.proofs.read_facts.Goals as goal
 
 pub returns-in-Given : goal.returns-in-Given
 returns-in-Given c = let read-second = c.read_second in
-    alone_given c.args.facts.now c.args.query.now c.args.relations.now read-second.new.1.1.0 c.args.universe.now read-second.new.1.1.1.0 c.c-1.given.0.0 (subst (MeetsAfter c.args.facts.now c.args.query.now (record { relations = 0; elements = 0 }) c.args.relations.now read-second.new.1.1.0 c.args.universe.now read-second.new.1.1.1.0) c.c-1.given.1 read-second.ensures)
+    alone_given c.args.facts.now c.args.query.now c.args.relations.now read-second.new.1.1.0 c.args.universe.now read-second.new.1.1.1.0 c.in-Given.c (subst (MeetsAfter c.args.facts.now c.args.query.now (record { relations = 0; elements = 0 }) c.args.relations.now read-second.new.1.1.0 c.args.universe.now read-second.new.1.1.1.0) c.in-Given.is read-second.ensures)
 
 pub returns-in-Refused : goal.returns-in-Refused
 returns-in-Refused c = let read-second = c.read_second in

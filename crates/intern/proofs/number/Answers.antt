@@ -22,7 +22,7 @@ loop-j-smaller-then-not-may_be_first c = omega arith
 
 pub loop-j-preserved-then-not-may_be_first : goal.loop-j-preserved-then-not-may_be_first
 loop-j-preserved-then-not-may_be_first c = let l = c.loop-j in
-    (omega arith, seek_skip _ _ _ c.args.ids.now c.args.i l.j _ c.name-x.ensures c.loop-j-test.true c.requires.numbered c.may_be_first.ensures (not-true _ c.if-not-may_be_first.true) l.invariant.1)
+    (omega arith, seek_skip _ _ _ c.args.ids.now c.args.i l.j _ c.name-x.ensures c.loop-j-test.true c.requires.numbered c.may_be_first.ensures (not-true _ c.if-not-may_be_first.true-raw) l.invariant.1)
 
 pub name-y-requires : goal.name-y-requires
 name-y-requires c = omega (arith, c.requires.i_in_bounds)

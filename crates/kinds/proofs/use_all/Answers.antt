@@ -24,7 +24,7 @@ shape_of-relations-in_default c = omega arith
 
 pub returns-in_default : goal.returns-in_default
 returns-in_default c = let l = c.loop-i in
-    walk_stops _ _ _ _ _ _ l.i _ l.invariant.4 c.loop-i-test.true _ _ _ _ c.use_word-a.ensures c.enum_told-1.given.1
+    walk_stops _ _ _ _ _ _ l.i _ l.invariant.4 c.loop-i-test.true _ _ _ _ c.use_word-a.ensures c.in_default.is
 
 pub overflow_add-i : goal.overflow_add-i
 overflow_add-i c = omega arith
@@ -34,7 +34,7 @@ loop-i-smaller c = omega arith
 
 pub loop-i-preserved : goal.loop-i-preserved
 loop-i-preserved c = let l = c.loop-i in
-    let g = walk_goes _ _ _ _ _ _ l.i _ l.invariant.4 c.loop-i-test.true _ _ _ _ c.use_word-a.ensures c.a-1.given.1 in
+    let g = walk_goes _ _ _ _ _ _ l.i _ l.invariant.4 c.loop-i-test.true _ _ _ _ c.use_word-a.ensures c.in-Done.is in
     (omega arith, g.0, omega arith, omega arith, g.1)
 
 pub shape_of-known : goal.shape_of-known

@@ -21,4 +21,4 @@ pub loop-c-preserved : goal.loop-c-preserved
 loop-c-preserved c = let l = c.loop-c in (simp length-set l.invariant.0, omega arith, closing_next c.args.u c.args.from _ l.firsts l.next l.c l.invariant.2 c.requires.1 (omega (arith, l.invariant.0, c.requires)))
 
 pub returns : goal.returns
-returns c = let l = c.loop-c in let e : l.c ≡ 16 = omega arith in (l.invariant.2.next_is ∙ rw e, (omega (arith, l.invariant.2.small), ((λ j k. l.invariant.2.at j (omega arith)), l.invariant.2.before)))
+returns c = let l = c.loop-c in let e : l.c ≡ 16 = omega arith in record { value = l.invariant.2.next_is ∙ rw e; small = omega (arith, l.invariant.2.small); firsts = (λ j k. l.invariant.2.at j (omega arith)); before = l.invariant.2.before }

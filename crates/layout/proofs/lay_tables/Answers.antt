@@ -24,4 +24,4 @@ pub loop-i-preserved : goal.loop-i-preserved
 loop-i-preserved c = let l = c.loop-i in (simp length-set l.invariant.0, omega arith, rw c.table_words-next.ensures (laying_next c.args.u c.args.relations.now l.firsts l.next l.i l.invariant.2 c.requires.1 c.loop-i-test.true (omega (arith, l.invariant.0, c.requires))))
 
 pub returns : goal.returns
-returns c = let l = c.loop-i in let e = laying_end c.args.u c.args.relations.now l.firsts l.next l.i l.invariant.2 c.loop-i-test.false l.invariant.1 in (e.0, (e.1, omega (arith, l.invariant.2.small)))
+returns c = let l = c.loop-i in let e = laying_end c.args.u c.args.relations.now l.firsts l.next l.i l.invariant.2 c.loop-i-test.false l.invariant.1 in record { value = e.0; firsts = e.1; small = omega (arith, l.invariant.2.small) }

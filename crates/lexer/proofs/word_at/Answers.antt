@@ -17,7 +17,7 @@ returns-then-same c = let a = c.args in
     let e = c.run_end-end in record { value = word_any (drop a.at a.text.now) (e.result - a.at) (omega (arith, e.ensures.0)) c.if-n-gt32.false (sym c.same.ensures ∙ c.if-same.true); small = any_packs }
 
 pub overflow_add-result : goal.overflow_add-result
-overflow_add-result c = let h = subst (λ (w : Word). index_of w < 26) c.k-1.given.1 c.reserved_word.ensures.terminal.1 in
+overflow_add-result c = let h = subst (λ (w : Word). index_of w < 26) c.in-Reserved.is c.reserved_word.ensures.index in
     omega arith
 
 pub returns-in-Reserved : goal.returns-in-Reserved
@@ -32,4 +32,4 @@ pub returns-in-Identifier : goal.returns-in-Identifier
 returns-in-Identifier c = let a = c.args in
     let e = c.run_end-end in
     let w = c.reserved_word in record { value = word_name (drop a.at a.text.now) (e.result - a.at) (omega (arith, e.ensures.0)) c.if-n-gt32.false
-          (sym c.same.ensures ∙ c.if-same.false) (λ i. w.ensures.1.0 i ∙ rw c.enum_told-1.given.1); small = name_packs (e.result - a.at) c.if-n-gt32.false }
+          (sym c.same.ensures ∙ c.if-same.false) (λ i. w.ensures.1.0 i ∙ rw c.in-Identifier.is); small = name_packs (e.result - a.at) c.if-n-gt32.false }

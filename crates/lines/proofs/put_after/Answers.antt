@@ -29,13 +29,13 @@ pub loop-k-preserved : goal.loop-k-preserved
 loop-k-preserved c = let a = c.args in
     let L = c.loop-k in
     let T = texts a.facts.now a.query.now a.places.now in
-    let l = good_length (e_int w8) 4 a.t6 _ c.well_formed.1.1.1.1.1.0 in
+    let l = good_length (e_int w8) 4 a.t _ c.well_formed.1.1.1.1.1.0 in
     let q = put_then c.put-q.ensures c.put_shown-p.ensures in (
       omega arith,
       put_within q,
       put_length q ∙ L.invariant.2,
       λ r o z. L.invariant.3 r o
-          (subst (λ (x : List ℕ). Put a.write L.out L.p x r o) (after_cons T a.n L.k a.t6 (omega arith) (omega arith)) (put_then q z)),
+          (subst (λ (x : List ℕ). Put a.write L.out L.p x r o) (after_cons T a.n L.k a.t (omega arith) (omega arith)) (put_then q z)),
     )
 
 pub shape_of-out : goal.shape_of-out
@@ -46,4 +46,4 @@ returns c = let a = c.args in
     let L = c.loop-k in
     let T = texts a.facts.now a.query.now a.places.now in
     L.invariant.3 L.p L.out
-    (subst (λ (x : List ℕ). Put a.write L.out L.p x L.p L.out) (after_none T a.n L.k a.t6 (omega arith)) (put_none L.invariant.1))
+    (subst (λ (x : List ℕ). Put a.write L.out L.p x L.p L.out) (after_none T a.n L.k a.t (omega arith)) (put_none L.invariant.1))

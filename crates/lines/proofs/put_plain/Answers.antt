@@ -1,6 +1,6 @@
 use Prim.Native.Nat.{ℕ, ◌-◌, ◌<◌}
 use mathlib.Core.Path.{◌≡◌, sym, ap, ◌∙◌, subst}
-use mathlib.Core.List.{List}
+use mathlib.Core.List.{List, []}
 use native.Mathlib.Omega.{arith}
 use lib.ListN.{get_or, take, drop}
 use mir.Syntax.{w8}
@@ -16,7 +16,7 @@ pub returns-then-n-eq0 : goal.returns-then-n-eq0
 returns-then-n-eq0 c = let a = c.args in
     let T = texts a.facts.now a.query.now a.places.now in
     subst (λ (x : List ℕ). Put a.write a.out.now a.at x c.put.result c.put.new.out)
-    (line_empty T ∙ ap (λ (k : ℕ). line_of T [] (take k a.t6)) (sym c.if-n-eq0.true))
+    (line_empty T ∙ ap (λ (k : ℕ). line_of T [] (take k a.t)) (sym c.if-n-eq0.true))
     c.put.ensures
 
 pub put_after-q-requires : goal.put_after-q-requires
@@ -26,10 +26,10 @@ put_after-q-requires c = let some : (c.args.n ≡ 0 → ⊥) = c.if-n-eq0.false 
 pub returns : goal.returns
 returns c = let a = c.args in
     let T = texts a.facts.now a.query.now a.places.now in
-    let long = good_length (e_int w8) 4 a.t6 _ c.well_formed.1.1.1.1.1.0 in
+    let long = good_length (e_int w8) 4 a.t _ c.well_formed.1.1.1.1.1.0 in
     let some : (a.n ≡ 0 → ⊥) = c.if-n-eq0.false in
     let h : 0 < a.n = omega arith in
     subst (λ (x : List ℕ). Put a.write a.out.now a.at x c.put-2.result c.put-2.new.out)
-    (line_bare T (get_or a.t6 0 0) (take (a.n - 1) (drop 1 a.t6))
-    ∙ ap (line_of T []) (sym (rest_cons a.n 0 a.t6 h (omega arith)) ∙ rest_all a.n a.t6))
+    (line_bare T (get_or a.t 0 0) (take (a.n - 1) (drop 1 a.t))
+    ∙ ap (line_of T []) (sym (rest_cons a.n 0 a.t h (omega arith)) ∙ rest_all a.n a.t))
     (put_then (put_then c.put_shown-p.ensures c.put_after-q.ensures) c.put-2.ensures)

@@ -18,8 +18,6 @@ loop-i-init c = (omega arith, put_start (item_text c.args.item) c.args.words.now
 pub shape_of-out-then-words-i : goal.shape_of-out-then-words-i
 shape_of-out-then-words-i c = put_length c.loop-i.invariant.1
 
--- all the words are put
-
 pub returns-then-words-i : goal.returns-then-words-i
 returns-then-words-i c = let L = c.loop-i in
     let a = c.args in
@@ -33,8 +31,6 @@ loop-i-preserved c = let L = c.loop-i in
 
 pub shape_of-out : goal.shape_of-out
 shape_of-out c = put_length c.loop-i.invariant.1
-
--- the first n are put
 
 pub returns : goal.returns
 returns c = let L = c.loop-i in

@@ -12,6 +12,7 @@ use Rattle.machine.proofs.Acting.{act_step, act_full, act_print}
 use Rattle.machine.proofs.Recounting.{counts_kept}
 use Rattle.machine.proofs.act.Goals as goal
 
+-- A PRINT by whether it fits, any other step as it is.
 abbrev all : List ℕ → List ℕ → ℕ → ℕ → Texts → Actions
 all words firsts u scr T = actions words firsts u scr (print_by words firsts u T)
 

@@ -1,5 +1,6 @@
 use Prim.Native.Nat.{◌-◌}
 use native.Mathlib.Omega.{arith}
+use Rattle.machine.specs.Turns.{here}
 use Rattle.machine.proofs.Quiets.{settled_end, settled_here, settled_on}
 use Rattle.machine.proofs.settle.Goals as goal
 
@@ -14,3 +15,9 @@ loop-at-preserved c = settled_on _ _ _ _ c.loop-at.invariant c.quiet-n.ensures c
 
 pub returns : goal.returns
 returns c = settled_end _ _ _ _ c.loop-at.invariant (omega arith)
+
+pub loop-at-init : goal.loop-at-init
+loop-at-init c = here
+
+pub quiet-n-requires : goal.quiet-n-requires
+quiet-n-requires c = (omega arith, omega arith)

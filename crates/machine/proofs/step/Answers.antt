@@ -9,23 +9,23 @@ use Rattle.machine.proofs.step.Goals as goal
 
 pub returns-in-6 : goal.returns-in-6
 returns-in-6 c = let a = c.args in
-    record { by_index = (λ p used buffer. by_range (actions a.words.now a.firsts.now a.u a.scr p) a.u a.words.now a.pc used a.store.now buffer a.sets.now a.cursors.now a.vars.now _ _ _ _ (is_range _ _ (omega arith) c.in-6.keys1) c.range_at.ensures.value c.range_at.ensures.store_after); counts_after = counts_kept _ _ _ _ _ _ _ _ (RANGE _ _) (is_range _ _ (omega arith) c.in-6.keys1) refl }
+    record { by_index = (λ p used buffer. by_range (actions a.words.now a.firsts.now a.u a.scr p) a.u a.words.now a.pc used a.store.now buffer a.sets.now a.cursors.now a.vars.now _ _ _ _ (is_range _ _ (omega arith) c.in-6.is) c.range_at.ensures.value c.range_at.ensures.store_after); counts_after = counts_kept _ _ _ _ _ _ _ _ (RANGE _ _) (is_range _ _ (omega arith) c.in-6.is) refl }
 
 pub returns-in-7 : goal.returns-in-7
 returns-in-7 c = let a = c.args in
-    record { by_index = (λ p used buffer. by_next (actions a.words.now a.firsts.now a.u a.scr p) a.u a.words.now a.pc used a.store.now buffer a.sets.now a.cursors.now a.vars.now _ _ _ _ (is_next _ _ (omega arith) c.in-7.keys2) c.take.ensures.cursors_after c.take.ensures.vars_after); counts_after = counts_kept _ _ _ _ _ _ _ _ (NEXT _ _) (is_next _ _ (omega arith) c.in-7.keys2) refl }
+    record { by_index = (λ p used buffer. by_next (actions a.words.now a.firsts.now a.u a.scr p) a.u a.words.now a.pc used a.store.now buffer a.sets.now a.cursors.now a.vars.now _ _ _ _ (is_next _ _ (omega arith) c.in-7.is) c.take.ensures.cursors_after c.take.ensures.vars_after); counts_after = counts_kept _ _ _ _ _ _ _ _ (NEXT _ _) (is_next _ _ (omega arith) c.in-7.is) refl }
 
 pub returns-in-33 : goal.returns-in-33
 returns-in-33 c = let a = c.args in
-    record { by_index = (λ p used buffer. by_assign (actions a.words.now a.firsts.now a.u a.scr p) a.u a.words.now a.pc used a.store.now buffer a.sets.now a.cursors.now a.vars.now _ (is_assign _ _ (omega arith) c.in-33.keys3) c.assign_at.ensures); counts_after = counts_new _ _ _ _ _ _ _ _ _ (is_assign _ _ (omega arith) c.in-33.keys3) c.recount_at.ensures }
+    record { by_index = (λ p used buffer. by_assign (actions a.words.now a.firsts.now a.u a.scr p) a.u a.words.now a.pc used a.store.now buffer a.sets.now a.cursors.now a.vars.now _ (is_assign _ _ (omega arith) c.in-33.is) c.assign_at.ensures); counts_after = counts_new _ _ _ _ _ _ _ _ _ (is_assign _ _ (omega arith) c.in-33.is) c.recount_at.ensures }
 
 pub returns-in-34 : goal.returns-in-34
 returns-in-34 c = let a = c.args in
-    record { by_index = (λ p used buffer. by_test (actions a.words.now a.firsts.now a.u a.scr p) a.u a.words.now a.pc used a.store.now buffer a.sets.now a.cursors.now a.vars.now _ _ _ (is_test _ _ (omega arith) c.in-34.keys4) c.branch-words.ensures.value c.branch-words.ensures.store_after); counts_after = counts_kept _ _ _ _ _ _ _ _ (TEST _) (is_test _ _ (omega arith) c.in-34.keys4) refl }
+    record { by_index = (λ p used buffer. by_test (actions a.words.now a.firsts.now a.u a.scr p) a.u a.words.now a.pc used a.store.now buffer a.sets.now a.cursors.now a.vars.now _ _ _ (is_test _ _ (omega arith) c.in-34.is) c.branch-words.ensures.value c.branch-words.ensures.store_after); counts_after = counts_kept _ _ _ _ _ _ _ _ (TEST _) (is_test _ _ (omega arith) c.in-34.is) refl }
 
 pub returns-in-36 : goal.returns-in-36
 returns-in-36 c = let a = c.args in
-    record { by_index = (λ p used buffer. by_again (actions a.words.now a.firsts.now a.u a.scr p) a.u a.words.now a.pc used a.store.now buffer a.sets.now a.cursors.now a.vars.now _ _ _ _ (is_again _ _ (omega arith) c.in-36.keys5) c.previous.ensures c.branch-words-in-36.ensures.value c.branch-words-in-36.ensures.store_after); counts_after = counts_kept _ _ _ _ _ _ _ _ (AGAIN _) (is_again _ _ (omega arith) c.in-36.keys5) refl }
+    record { by_index = (λ p used buffer. by_again (actions a.words.now a.firsts.now a.u a.scr p) a.u a.words.now a.pc used a.store.now buffer a.sets.now a.cursors.now a.vars.now _ _ _ _ (is_again _ _ (omega arith) c.in-36.is) c.previous.ensures c.branch-words-in-36.ensures.value c.branch-words-in-36.ensures.store_after); counts_after = counts_kept _ _ _ _ _ _ _ _ (AGAIN _) (is_again _ _ (omega arith) c.in-36.is) refl }
 
 pub returns-in_default : goal.returns-in_default
 returns-in_default c = let a = c.args in

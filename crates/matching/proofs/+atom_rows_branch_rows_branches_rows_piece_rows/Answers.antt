@@ -38,7 +38,7 @@ pub branch_rows-overflow_sub-n : goal.branch_rows-overflow_sub-n
 branch_rows-overflow_sub-n t c = omega (arith, c.if-n-eq0.false)
 
 pub branch_rows-returns-in_default : goal.branch_rows-returns-in_default
-branch_rows-returns-in_default t c = no_piece c.args.s.now c.args.n c.args.at c.if-n-eq0.false (sym c.enum_told-1.given.1 ∙ c.piece_end.ensures)
+branch_rows-returns-in_default t c = no_piece c.args.s.now c.args.n c.args.at c.if-n-eq0.false (sym c.in_default.is ∙ c.piece_end.ensures)
 
 pub branch_rows-overflow_sub-n-2 : goal.branch_rows-overflow_sub-n-2
 branch_rows-overflow_sub-n-2 t c = omega (arith, c.if-n-eq0.false)
@@ -47,7 +47,7 @@ pub branch_rows-piece_rows-requires : goal.branch_rows-piece_rows-requires
 branch_rows-piece_rows-requires t c = (omega (arith, c.if-n-eq0.false), (c.requires.0, c.requires.1))
 
 pub branch_rows-returns-then-ends_branch : goal.branch_rows-returns-then-ends_branch
-branch_rows-returns-then-ends_branch t c = led_piece c.args.s.now c.args.n c.args.at c.if-n-eq0.false c.i-1.given.0.0 (sym c.i-1.given.1 ∙ c.piece_end.ensures) (sym c.ends_branch.ensures ∙ c.if-ends_branch.true) c.piece_rows.ensures
+branch_rows-returns-then-ends_branch t c = led_piece c.args.s.now c.args.n c.args.at c.if-n-eq0.false c.in-At.i (sym c.in-At.is ∙ c.piece_end.ensures) (sym c.ends_branch.ensures ∙ c.if-ends_branch.true) c.piece_rows.ensures
 
 pub branch_rows-overflow_sub-n-3 : goal.branch_rows-overflow_sub-n-3
 branch_rows-overflow_sub-n-3 t c = omega (arith, c.if-n-eq0.false)
@@ -56,7 +56,7 @@ pub branch_rows-branch_rows-requires : goal.branch_rows-branch_rows-requires
 branch_rows-branch_rows-requires t c = (omega (arith, c.if-n-eq0.false), (c.requires.0, let h : length c.piece_rows.new.1.1.1.1.0 ≡ length c.args.rows.now = c.piece_rows.ensures.long in omega (arith, h, c.requires.1)))
 
 pub branch_rows-returns : goal.branch_rows-returns
-branch_rows-returns t c = led_pieces c.args.s.now c.args.n c.args.at c.if-n-eq0.false c.i-1.given.0.0 c.piece_rows.new.1.1.1.1.0 (sym c.i-1.given.1 ∙ c.piece_end.ensures) (sym c.ends_branch.ensures ∙ c.if-ends_branch.false) c.piece_rows.ensures c.branch_rows.ensures
+branch_rows-returns t c = led_pieces c.args.s.now c.args.n c.args.at c.if-n-eq0.false c.in-At.i c.piece_rows.new.1.1.1.1.0 (sym c.in-At.is ∙ c.piece_end.ensures) (sym c.ends_branch.ensures ∙ c.if-ends_branch.false) c.piece_rows.ensures c.branch_rows.ensures
 
 pub branches_rows-returns-then-n-eq0 : goal.branches_rows-returns-then-n-eq0
 branches_rows-returns-then-n-eq0 t c = led_depth c.args.s.now c.args.n c.args.at branches c.if-n-eq0.true
@@ -65,7 +65,7 @@ pub branches_rows-overflow_sub-n : goal.branches_rows-overflow_sub-n
 branches_rows-overflow_sub-n t c = omega (arith, c.if-n-eq0.false)
 
 pub branches_rows-returns-in_default : goal.branches_rows-returns-in_default
-branches_rows-returns-in_default t c = no_branch c.args.s.now c.args.n c.args.at c.if-n-eq0.false (sym c.enum_told-1.given.1 ∙ c.branch_end.ensures)
+branches_rows-returns-in_default t c = no_branch c.args.s.now c.args.n c.args.at c.if-n-eq0.false (sym c.in_default.is ∙ c.branch_end.ensures)
 
 pub branches_rows-overflow_sub-n-then-byte_at-ne124 : goal.branches_rows-overflow_sub-n-then-byte_at-ne124
 branches_rows-overflow_sub-n-then-byte_at-ne124 t c = omega (arith, c.if-n-eq0.false)
@@ -74,7 +74,7 @@ pub branches_rows-branch_rows-requires : goal.branches_rows-branch_rows-requires
 branches_rows-branch_rows-requires t c = (omega (arith, c.if-n-eq0.false), (c.requires.0, c.requires.1))
 
 pub branches_rows-returns-then-byte_at-ne124 : goal.branches_rows-returns-then-byte_at-ne124
-branches_rows-returns-then-byte_at-ne124 t c = led_branch c.args.s.now c.args.n c.args.at c.if-n-eq0.false c.i-1.given.0.0 (sym c.i-1.given.1 ∙ c.branch_end.ensures) (λ q. c.if-byte_at-ne124.true (c.byte_at.ensures ∙ q)) c.branch_rows.ensures
+branches_rows-returns-then-byte_at-ne124 t c = led_branch c.args.s.now c.args.n c.args.at c.if-n-eq0.false c.in-At.i (sym c.in-At.is ∙ c.branch_end.ensures) (λ q. c.if-byte_at-ne124.true (c.byte_at.ensures ∙ q)) c.branch_rows.ensures
 
 pub branches_rows-slice_bounds-copy-end : goal.branches_rows-slice_bounds-copy-end
 branches_rows-slice_bounds-copy-end t c = prefix_long _ _ c.requires.1
@@ -89,7 +89,7 @@ pub branches_rows-branch_rows-requires-2 : goal.branches_rows-branch_rows-requir
 branches_rows-branch_rows-requires-2 t c = (omega (arith, c.if-n-eq0.false), (c.requires.0, c.requires.1))
 
 pub branches_rows-overflow_add-i : goal.branches_rows-overflow_add-i
-branches_rows-overflow_add-i t c = let h = at_most c.args.s.now (c.args.n - 1) branch c.args.at c.i-1.given.0.0 (sym c.i-1.given.1 ∙ c.branch_end.ensures) in omega (arith, h)
+branches_rows-overflow_add-i t c = let h = at_most c.args.s.now (c.args.n - 1) branch c.args.at c.in-At.i (sym c.in-At.is ∙ c.branch_end.ensures) in omega (arith, h)
 
 pub branches_rows-overflow_sub-n-3 : goal.branches_rows-overflow_sub-n-3
 branches_rows-overflow_sub-n-3 t c = omega (arith, c.if-n-eq0.false)
@@ -107,8 +107,8 @@ pub branches_rows-unite-requires : goal.branches_rows-unite-requires
 branches_rows-unite-requires t c = c.branch_rows-2.ensures.long ∙ prefix_long (length c.args.rows.now) _ (append_long (length c.args.rows.now) c.branches_rows.new.1.1.1.1.0 _ (c.branches_rows.ensures.long ∙ ap length (take_at c.copy.new.rows _ (length c.args.rows.now) (c.copy.ensures.long ∙ sym (prefix_long (length c.args.rows.now) _ c.requires.1))) ∙ (c.copy.ensures.long ∙ sym (prefix_long (length c.args.rows.now) _ c.requires.1))))
 
 pub branches_rows-returns : goal.branches_rows-returns
-branches_rows-returns t c = led_branches c.args.s.now c.args.n c.args.at c.if-n-eq0.false c.i-1.given.0.0 c.branch_rows-2.new.1.1.1.1.0 c.copy.new.rows c.branches_rows.new.1.1.1.1.0 _ (sym c.i-1.given.1 ∙ c.branch_end.ensures) (sym c.byte_at.ensures ∙ c.if-byte_at-ne124.false) c.branch_rows-2.ensures c.copy.ensures (sym (prefix_long _ _ c.requires.1))
-    (subst (λ (l : List ℕ). Led (phrase (c.args.n - 1) branches (drop (c.i-1.given.0.0 + 1) c.args.s.now)) c.args.e.now l c.branches_rows.new.1.1.1.1.0) (take_at c.copy.new.rows _ (length c.args.rows.now) (c.copy.ensures.long ∙ sym (prefix_long (length c.args.rows.now) _ c.requires.1))) c.branches_rows.ensures)
+branches_rows-returns t c = led_branches c.args.s.now c.args.n c.args.at c.if-n-eq0.false c.in-At.i c.branch_rows-2.new.1.1.1.1.0 c.copy.new.rows c.branches_rows.new.1.1.1.1.0 _ (sym c.in-At.is ∙ c.branch_end.ensures) (sym c.byte_at.ensures ∙ c.if-byte_at-ne124.false) c.branch_rows-2.ensures c.copy.ensures (sym (prefix_long _ _ c.requires.1))
+    (subst (λ (l : List ℕ). Led (phrase (c.args.n - 1) branches (drop (c.in-At.i + 1) c.args.s.now)) c.args.e.now l c.branches_rows.new.1.1.1.1.0) (take_at c.copy.new.rows _ (length c.args.rows.now) (c.copy.ensures.long ∙ sym (prefix_long (length c.args.rows.now) _ c.requires.1))) c.branches_rows.ensures)
     (subst (λ (l : List ℕ). Each (λ (k a r : ℕ). r ≡ bit_or a (get_or l k 0)) c.branch_rows-2.new.1.1.1.1.0 c.unite.new.rows) (take_at c.branches_rows.new.1.1.1.1.0 _ (length c.args.rows.now) (c.branches_rows.ensures.long ∙ ap length (take_at c.copy.new.rows _ (length c.args.rows.now) (c.copy.ensures.long ∙ sym (prefix_long (length c.args.rows.now) _ c.requires.1))) ∙ (c.copy.ensures.long ∙ sym (prefix_long (length c.args.rows.now) _ c.requires.1)))) c.unite.ensures)
 
 pub piece_rows-returns-then-n-eq0 : goal.piece_rows-returns-then-n-eq0
@@ -124,10 +124,10 @@ pub piece_rows-overflow_sub-n : goal.piece_rows-overflow_sub-n
 piece_rows-overflow_sub-n t c = omega (arith, c.if-n-eq0.false)
 
 pub piece_rows-returns-in_default : goal.piece_rows-returns-in_default
-piece_rows-returns-in_default t c = no_atom c.args.s.now c.args.n c.args.at c.if-n-eq0.false (λ q. c.if-b-eq94.false (c.byte_at-b.ensures ∙ q)) (λ q. c.if-b-eq36.false (c.byte_at-b.ensures ∙ q)) (sym c.enum_told-1.given.1 ∙ c.atom_end.ensures)
+piece_rows-returns-in_default t c = no_atom c.args.s.now c.args.n c.args.at c.if-n-eq0.false (λ q. c.if-b-eq94.false (c.byte_at-b.ensures ∙ q)) (λ q. c.if-b-eq36.false (c.byte_at-b.ensures ∙ q)) (sym c.in_default.is ∙ c.atom_end.ensures)
 
 pub piece_rows-sign_at-sign-requires : goal.piece_rows-sign_at-sign-requires
-piece_rows-sign_at-sign-requires t c = at_most c.args.s.now (c.args.n - 1) atom c.args.at c.i-1.given.0.0 (sym c.i-1.given.1 ∙ c.atom_end.ensures)
+piece_rows-sign_at-sign-requires t c = at_most c.args.s.now (c.args.n - 1) atom c.args.at c.in-At.i (sym c.in-At.is ∙ c.atom_end.ensures)
 
 pub piece_rows-overflow_sub-n-then-sign-eq0 : goal.piece_rows-overflow_sub-n-then-sign-eq0
 piece_rows-overflow_sub-n-then-sign-eq0 t c = omega (arith, c.if-n-eq0.false)
@@ -136,7 +136,7 @@ pub piece_rows-atom_rows-requires : goal.piece_rows-atom_rows-requires
 piece_rows-atom_rows-requires t c = (omega (arith, c.if-n-eq0.false), (c.requires.0, c.requires.1))
 
 pub piece_rows-returns-then-sign-eq0 : goal.piece_rows-returns-then-sign-eq0
-piece_rows-returns-then-sign-eq0 t c = led_once c.args.s.now c.args.n c.args.at c.if-n-eq0.false (λ q. c.if-b-eq94.false (c.byte_at-b.ensures ∙ q)) (λ q. c.if-b-eq36.false (c.byte_at-b.ensures ∙ q)) c.i-1.given.0.0 c.sign_at-sign.result.least c.sign_at-sign.result.further (sym c.i-1.given.1 ∙ c.atom_end.ensures) c.sign_at-sign.ensures.0 c.sign_at-sign.ensures.1 c.if-sign-eq1.true c.if-sign-eq0.true c.atom_rows.ensures
+piece_rows-returns-then-sign-eq0 t c = led_once c.args.s.now c.args.n c.args.at c.if-n-eq0.false (λ q. c.if-b-eq94.false (c.byte_at-b.ensures ∙ q)) (λ q. c.if-b-eq36.false (c.byte_at-b.ensures ∙ q)) c.in-At.i c.sign_at-sign.result.least c.sign_at-sign.result.further (sym c.in-At.is ∙ c.atom_end.ensures) c.sign_at-sign.ensures.0 c.sign_at-sign.ensures.1 c.if-sign-eq1.true c.if-sign-eq0.true c.atom_rows.ensures
 
 pub piece_rows-slice_bounds-singles-end : goal.piece_rows-slice_bounds-singles-end
 piece_rows-slice_bounds-singles-end t c = prefix_long (length c.args.e.now + 1) _ (let h = c.requires.0 in omega (arith, h))
@@ -160,7 +160,7 @@ pub piece_rows-slice_bounds-turn-end : goal.piece_rows-slice_bounds-turn-end
 piece_rows-slice_bounds-turn-end t c = prefix_long (length c.args.e.now + 1) _ (append_long (length c.args.e.now + 1) c.atom_rows-2.new.1.1.1.1.0 _ (c.atom_rows-2.ensures.long ∙ ap length (take_at c.singles.new.rows _ (length c.args.e.now + 1) (c.singles.ensures.long ∙ sym (prefix_long (length c.args.e.now + 1) _ (let h = c.requires.0 in omega (arith, h))))) ∙ (c.singles.ensures.long ∙ sym (prefix_long (length c.args.e.now + 1) _ (let h = c.requires.0 in omega (arith, h))))))
 
 pub piece_rows-returns : goal.piece_rows-returns
-piece_rows-returns t c = led_turns c.args.s.now c.args.n c.args.at c.if-n-eq0.false (λ q. c.if-b-eq94.false (c.byte_at-b.ensures ∙ q)) (λ q. c.if-b-eq36.false (c.byte_at-b.ensures ∙ q)) c.i-1.given.0.0 c.sign_at-sign.result.least c.sign_at-sign.result.further (sym c.i-1.given.1 ∙ c.atom_end.ensures) c.sign_at-sign.ensures.0 c.sign_at-sign.ensures.1 c.atom_rows-2.new.1.1.1.1.0 c.singles.new.rows _ c.requires.0 (sym (prefix_long (length c.args.e.now + 1) _ (let h = c.requires.0 in omega (arith, h)))) c.singles.ensures
+piece_rows-returns t c = led_turns c.args.s.now c.args.n c.args.at c.if-n-eq0.false (λ q. c.if-b-eq94.false (c.byte_at-b.ensures ∙ q)) (λ q. c.if-b-eq36.false (c.byte_at-b.ensures ∙ q)) c.in-At.i c.sign_at-sign.result.least c.sign_at-sign.result.further (sym c.in-At.is ∙ c.atom_end.ensures) c.sign_at-sign.ensures.0 c.sign_at-sign.ensures.1 c.atom_rows-2.new.1.1.1.1.0 c.singles.new.rows _ c.requires.0 (sym (prefix_long (length c.args.e.now + 1) _ (let h = c.requires.0 in omega (arith, h)))) c.singles.ensures
     (subst (λ (l : List ℕ). Led (phrase (c.args.n - 1) atom (drop c.args.at c.args.s.now)) c.args.e.now l c.atom_rows-2.new.1.1.1.1.0) (take_at c.singles.new.rows _ (length c.args.e.now + 1) (c.singles.ensures.long ∙ sym (prefix_long (length c.args.e.now + 1) _ (let h = c.requires.0 in omega (arith, h))))) c.atom_rows-2.ensures)
     (subst (λ (l : List ℕ). Each (λ (m a r : ℕ). (o : Reading) (e : Text) → Turn o e l → Turns o e c.sign_at-sign.result.least c.sign_at-sign.result.further a r) c.args.rows.now c.turn.new.rows) (take_at c.atom_rows-2.new.1.1.1.1.0 _ (length c.args.e.now + 1) (c.atom_rows-2.ensures.long ∙ ap length (take_at c.singles.new.rows _ (length c.args.e.now + 1) (c.singles.ensures.long ∙ sym (prefix_long (length c.args.e.now + 1) _ (let h = c.requires.0 in omega (arith, h))))) ∙ (c.singles.ensures.long ∙ sym (prefix_long (length c.args.e.now + 1) _ (let h = c.requires.0 in omega (arith, h)))))) c.turn.ensures)
 

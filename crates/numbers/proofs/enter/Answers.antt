@@ -8,33 +8,26 @@ use Rattle.numbers.proofs.EnterLaws.{kept_count, kept_words, new_count, new_word
 use native.Mathlib.Omega.{arith}
 use lib.Seq.{length-take-le}
 use Rattle.numbers.proofs.enter.Goals as goal
-use Rattle.numbers.proofs.enter.Goals.{In-Found, In-New-2}
-
-found_same : (c : In-Found) → let a = c.args in entered a.v (take a.n a.words.now) ≡ take a.n a.words.now
-found_same c =
-    let a = c.args in
-    c.place_of-place.ensures.value ∙ ap (entered_at a.v (take a.n a.words.now)) c.enum_told-1.given.1
-
-new_within : (c : In-New-2) → c.place-1.given.0.0 ≤ c.args.n
-new_within c =
-    subst (λ (k : ℕ). c.place-1.given.0.0 ≤ k) (length-take-le c.args.n c.args.words.now (omega (arith, c.requires.0)))
-    (subst (PlaceWithin (length (take c.args.n c.args.words.now))) c.place-1.given.1 c.place_of-place.ensures.within)
-
-new_same : (c : In-New-2)
-    → let a = c.args in
-    entered a.v (take a.n a.words.now) ≡ take c.place-1.given.0.0 (take a.n a.words.now) ++ a.v ∷ drop c.place-1.given.0.0 (take a.n a.words.now)
-new_same c =
-    let a = c.args in
-    c.place_of-place.ensures.value ∙ ap (entered_at a.v (take a.n a.words.now)) c.place-1.given.1
 
 pub slice_bounds-place_of-end-2 : goal.slice_bounds-place_of-end-2
 slice_bounds-place_of-end-2 c = sym (length-take-le _ _ (omega arith))
 
 pub insert_at-requires : goal.insert_at-requires
-insert_at-requires c = (new_within (goal.at.insert_at-requires c).In-New-2, c.requires.0)
+insert_at-requires c = 
+    let new_within : c.in-New.p ≤ c.args.n = subst (λ (k : ℕ). c.in-New.p ≤ k) (length-take-le c.args.n c.args.words.now (omega (arith, c.requires.0)))
+        (subst (PlaceWithin (length (take c.args.n c.args.words.now))) c.in-New.is c.place_of-place.ensures.within) in
+    (new_within, c.requires.0)
 
 pub returns-in-Found : goal.returns-in-Found
-returns-in-Found c = record { count = kept_count c.args.words.now c.args.n c.args.v c.requires.0 (found_same (goal.at.returns-in-Found c).In-Found); words = kept_words c.args.words.now c.args.n c.args.v c.requires.0 (found_same (goal.at.returns-in-Found c).In-Found) }
+returns-in-Found c = 
+    let found_same : let a = c.args in entered a.v (take a.n a.words.now) ≡ take a.n a.words.now = let a = c.args in
+        c.place_of-place.ensures.value ∙ ap (entered_at a.v (take a.n a.words.now)) c.in-Found.is in
+    record { count = kept_count c.args.words.now c.args.n c.args.v c.requires.0 (found_same); words = kept_words c.args.words.now c.args.n c.args.v c.requires.0 (found_same) }
 
 pub returns-in-New : goal.returns-in-New
-returns-in-New c = let p = c.place-1.given.0.0 in record { count = new_count c.args.words.now c.args.n c.args.v c.requires.0 p (new_within (goal.at.returns-in-New c).In-New-2) (new_same (goal.at.returns-in-New c).In-New-2); words = c.insert_at.ensures ∙ new_words c.args.words.now c.args.n c.args.v c.requires.0 p (new_within (goal.at.returns-in-New c).In-New-2) (new_same (goal.at.returns-in-New c).In-New-2) }
+returns-in-New c = 
+    let new_within : c.in-New.p ≤ c.args.n = subst (λ (k : ℕ). c.in-New.p ≤ k) (length-take-le c.args.n c.args.words.now (omega (arith, c.requires.0)))
+        (subst (PlaceWithin (length (take c.args.n c.args.words.now))) c.in-New.is c.place_of-place.ensures.within) in
+    let new_same : let a = c.args in entered a.v (take a.n a.words.now) ≡ take c.in-New.p (take a.n a.words.now) ++ a.v ∷ drop c.in-New.p (take a.n a.words.now) = let a = c.args in
+        c.place_of-place.ensures.value ∙ ap (entered_at a.v (take a.n a.words.now)) c.in-New.is in
+    let p = c.in-New.p in record { count = new_count c.args.words.now c.args.n c.args.v c.requires.0 p (new_within) (new_same); words = c.insert_at.ensures ∙ new_words c.args.words.now c.args.n c.args.v c.requires.0 p (new_within) (new_same) }

@@ -12,9 +12,9 @@ returns-then-out-lt30 c = closes_short c.args.a c.args.out.now c.if-out-lt30.tru
 pub returns-in-Ended : goal.returns-in-Ended
 returns-in-Ended c = let s = c.args in
     closes_put s.a s.out.now c.if-out-lt30.false
-    (subst (λ (a : Ran). Put true s.out.now 0 (closing a) c.put_stopped.result c.put_stopped.new.out) (sym c.a-1.given.1) c.put_stopped.ensures)
+    (subst (λ (a : Ran). Put true s.out.now 0 (closing a) c.put_stopped.result c.put_stopped.new.out) (sym c.in-Ended.is) c.put_stopped.ensures)
 
 pub returns-in-Refused : goal.returns-in-Refused
 returns-in-Refused c = let s = c.args in
     closes_put s.a s.out.now c.if-out-lt30.false
-    (subst (λ (a : Ran). Put true s.out.now 0 (closing a) c.put_refused.result c.put_refused.new.out) (sym c.a-in-Refused-1.given.1) c.put_refused.ensures)
+    (subst (λ (a : Ran). Put true s.out.now 0 (closing a) c.put_refused.result c.put_refused.new.out) (sym c.in-Refused.is) c.put_refused.ensures)

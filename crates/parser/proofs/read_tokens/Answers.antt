@@ -6,7 +6,7 @@ pub parse-requires : goal.parse-requires
 parse-requires c = (c.requires.few, (omega (arith, c.requires.few, c.requires.room), places _ c.requires))
 
 pub returns-in-Read : goal.returns-in-Read
-returns-in-Read c = tokens_read _ c.requires c.parse.ensures c.t-1.given.1
+returns-in-Read c = tokens_read _ c.requires c.parse.ensures c.in-Read.is
 
 pub returns-in-Refused : goal.returns-in-Refused
-returns-in-Refused c = tokens_refused _ c.requires c.parse.ensures c.row-1.given.1 c.refusal.ensures
+returns-in-Refused c = tokens_refused _ c.requires c.parse.ensures c.in-Refused.is c.refusal.ensures

@@ -16,4 +16,4 @@ pub returns : goal.returns
 returns c = let w = c.args.words.now in
     let e = sym c.place_of-place.ensures.value in
     let g = c.enter_at.ensures in
-    record { value = g.0 ∙ ap (λ (es : List ℕ). count_in es w) e; words = g.1 ∙ ap (λ (es : List ℕ). in_front es w) e }
+    record { value = g.value ∙ ap (λ (es : List ℕ). count_in es w) e; words = g.words ∙ ap (λ (es : List ℕ). in_front es w) e }

@@ -23,14 +23,14 @@ pub bounds-parts-p : goal.bounds-parts-p
 bounds-parts-p c = omega arith
 
 pub returns-in-Same : goal.returns-in-Same
-returns-in-Same c = record { value = sorted_found _ _ _ _ _ c.requires (omega arith) (ap₂ order (sym c.loop-low.invariant.2) (sym c.text_of.ensures) ∙ sym c.compare.ensures ∙ c.enum_told-1.given.1); within = omega arith }
+returns-in-Same c = record { value = sorted_found _ _ _ _ _ c.requires (omega arith) (ap₂ order (sym c.loop-low.invariant.2) (sym c.text_of.ensures) ∙ sym c.compare.ensures ∙ c.in-Same.is); within = omega arith }
 
 pub loop-low-smaller-in-Before : goal.loop-low-smaller-in-Before
 loop-low-smaller-in-Before c = omega arith
 
 pub loop-low-preserved-in-Before : goal.loop-low-preserved-in-Before
 loop-low-preserved-in-Before c = let i = c.loop-low.invariant in
-    (omega arith, omega arith, i.2, i.3, λ l. ap₂ order (sym c.loop-low.invariant.2) (sym c.text_of.ensures) ∙ sym c.compare.ensures ∙ c.enum_told-in-Before-1.given.1)
+    (omega arith, omega arith, i.2, i.3, λ l. ap₂ order (sym c.loop-low.invariant.2) (sym c.text_of.ensures) ∙ sym c.compare.ensures ∙ c.in-Before.is)
 
 pub overflow_add-low : goal.overflow_add-low
 overflow_add-low c = omega arith
@@ -40,7 +40,7 @@ loop-low-smaller c = omega arith
 
 pub loop-low-preserved : goal.loop-low-preserved
 loop-low-preserved c = let i = c.loop-low.invariant in
-    (omega arith, omega arith, i.2, sorted_after _ _ _ _ _ c.requires (omega arith) (ap₂ order (sym c.loop-low.invariant.2) (sym c.text_of.ensures) ∙ sym c.compare.ensures ∙ c.enum_told-in-After-1.given.1), i.4)
+    (omega arith, omega arith, i.2, sorted_after _ _ _ _ _ c.requires (omega arith) (ap₂ order (sym c.loop-low.invariant.2) (sym c.text_of.ensures) ∙ sym c.compare.ensures ∙ c.in-After.is), i.4)
 
 pub returns : goal.returns
 returns c = let i = c.loop-low.invariant in record { value = sorted_new _ _ _ _ _ c.loop-low.high (omega arith) i.3 i.4; within = omega arith }

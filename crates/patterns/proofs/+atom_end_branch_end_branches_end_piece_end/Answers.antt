@@ -2,7 +2,7 @@ use Prim.Native.Nat.{ℕ}
 use Prim.Native.Nat.{◌+◌, ◌-◌, ◌≤◌}
 use native.Mathlib.Omega.{arith}
 use mathlib.Core.Path.{◌≡◌, sym, ap, ◌∙◌}
-use mathlib.Core.List.{◌∷◌}
+use mathlib.Core.List.{[], ◌∷◌}
 use lib.Dec.{eqb}
 use lib.ListN.{length}
 use Rattle.definition.specs.Text.{some_of}
@@ -30,18 +30,18 @@ atom_end-branches_end-requires t c = (omega (arith, c.if-n-eq0.false), tt)
 
 pub atom_end-returns-in_default : goal.atom_end-returns-in_default
 atom_end-returns-in_default t c = deeper (λ (n : ℕ). Wrong ≡ end_at c.args.s.now n atom c.args.at) c.args.n c.if-n-eq0.false
-    (atom_wrong c.args.s.now (c.args.n - 1) c.args.at (sym c.byte_at.ensures ∙ c.if-byte_at-ne40.false) (sym c.enum_told-1.given.1 ∙ c.branches_end.ensures))
+    (atom_wrong c.args.s.now (c.args.n - 1) c.args.at (sym c.byte_at.ensures ∙ c.if-byte_at-ne40.false) (sym c.in_default.is ∙ c.branches_end.ensures))
 
 pub atom_end-returns-then-byte_at-ne41 : goal.atom_end-returns-then-byte_at-ne41
 atom_end-returns-then-byte_at-ne41 t c = deeper (λ (n : ℕ). Wrong ≡ end_at c.args.s.now n atom c.args.at) c.args.n c.if-n-eq0.false
-    (atom_open c.args.s.now (c.args.n - 1) c.args.at c.i-1.given.0.0 (sym c.byte_at.ensures ∙ c.if-byte_at-ne40.false) (sym c.i-1.given.1 ∙ c.branches_end.ensures) (λ e. c.if-byte_at-ne41.true (c.byte_at-2.ensures ∙ e)))
+    (atom_open c.args.s.now (c.args.n - 1) c.args.at c.in-At.i (sym c.byte_at.ensures ∙ c.if-byte_at-ne40.false) (sym c.in-At.is ∙ c.branches_end.ensures) (λ e. c.if-byte_at-ne41.true (c.byte_at-2.ensures ∙ e)))
 
 pub atom_end-overflow_add-result : goal.atom_end-overflow_add-result
-atom_end-overflow_add-result t c = let h = at_most c.args.s.now (c.args.n - 1) branches (c.args.at + 1) c.i-1.given.0.0 (sym c.i-1.given.1 ∙ c.branches_end.ensures) in omega (arith, h)
+atom_end-overflow_add-result t c = let h = at_most c.args.s.now (c.args.n - 1) branches (c.args.at + 1) c.in-At.i (sym c.in-At.is ∙ c.branches_end.ensures) in omega (arith, h)
 
 pub atom_end-returns : goal.atom_end-returns
-atom_end-returns t c = deeper (λ (n : ℕ). At (c.i-1.given.0.0 + 1) ≡ end_at c.args.s.now n atom c.args.at) c.args.n c.if-n-eq0.false
-    (atom_closed c.args.s.now (c.args.n - 1) c.args.at c.i-1.given.0.0 (sym c.byte_at.ensures ∙ c.if-byte_at-ne40.false) (sym c.i-1.given.1 ∙ c.branches_end.ensures) (sym c.byte_at-2.ensures ∙ c.if-byte_at-ne41.false))
+atom_end-returns t c = deeper (λ (n : ℕ). At (c.in-At.i + 1) ≡ end_at c.args.s.now n atom c.args.at) c.args.n c.if-n-eq0.false
+    (atom_closed c.args.s.now (c.args.n - 1) c.args.at c.in-At.i (sym c.byte_at.ensures ∙ c.if-byte_at-ne40.false) (sym c.in-At.is ∙ c.branches_end.ensures) (sym c.byte_at-2.ensures ∙ c.if-byte_at-ne41.false))
 
 pub branch_end-returns-then-n-eq0 : goal.branch_end-returns-then-n-eq0
 branch_end-returns-then-n-eq0 t c = no_depth c.args.s.now c.args.n branch c.args.at c.if-n-eq0.true
@@ -54,11 +54,11 @@ branch_end-piece_end-requires t c = (omega (arith, c.if-n-eq0.false), tt)
 
 pub branch_end-returns-in_default : goal.branch_end-returns-in_default
 branch_end-returns-in_default t c = deeper (λ (n : ℕ). Wrong ≡ end_at c.args.s.now n branch c.args.at) c.args.n c.if-n-eq0.false
-    (branch_wrong c.args.s.now (c.args.n - 1) c.args.at (sym c.enum_told-1.given.1 ∙ c.piece_end.ensures))
+    (branch_wrong c.args.s.now (c.args.n - 1) c.args.at (sym c.in_default.is ∙ c.piece_end.ensures))
 
 pub branch_end-returns-then-ends_branch : goal.branch_end-returns-then-ends_branch
-branch_end-returns-then-ends_branch t c = deeper (λ (n : ℕ). At c.i-1.given.0.0 ≡ end_at c.args.s.now n branch c.args.at) c.args.n c.if-n-eq0.false
-    (branch_last c.args.s.now (c.args.n - 1) c.args.at c.i-1.given.0.0 (sym c.i-1.given.1 ∙ c.piece_end.ensures) (sym c.ends_branch.ensures ∙ c.if-ends_branch.true))
+branch_end-returns-then-ends_branch t c = deeper (λ (n : ℕ). At c.in-At.i ≡ end_at c.args.s.now n branch c.args.at) c.args.n c.if-n-eq0.false
+    (branch_last c.args.s.now (c.args.n - 1) c.args.at c.in-At.i (sym c.in-At.is ∙ c.piece_end.ensures) (sym c.ends_branch.ensures ∙ c.if-ends_branch.true))
 
 pub branch_end-overflow_sub-n-2 : goal.branch_end-overflow_sub-n-2
 branch_end-overflow_sub-n-2 t c = omega (arith, c.if-n-eq0.false)
@@ -68,7 +68,7 @@ branch_end-branch_end-requires t c = (omega (arith, c.if-n-eq0.false), tt)
 
 pub branch_end-returns : goal.branch_end-returns
 branch_end-returns t c = deeper (λ (n : ℕ). c.branch_end.result ≡ end_at c.args.s.now n branch c.args.at) c.args.n c.if-n-eq0.false
-    (c.branch_end.ensures ∙ branch_more c.args.s.now (c.args.n - 1) c.args.at c.i-1.given.0.0 (sym c.i-1.given.1 ∙ c.piece_end.ensures) (sym c.ends_branch.ensures ∙ c.if-ends_branch.false))
+    (c.branch_end.ensures ∙ branch_more c.args.s.now (c.args.n - 1) c.args.at c.in-At.i (sym c.in-At.is ∙ c.piece_end.ensures) (sym c.ends_branch.ensures ∙ c.if-ends_branch.false))
 
 pub branches_end-returns-then-n-eq0 : goal.branches_end-returns-then-n-eq0
 branches_end-returns-then-n-eq0 t c = no_depth c.args.s.now c.args.n branches c.args.at c.if-n-eq0.true
@@ -81,14 +81,14 @@ branches_end-branch_end-requires t c = (omega (arith, c.if-n-eq0.false), tt)
 
 pub branches_end-returns-in_default : goal.branches_end-returns-in_default
 branches_end-returns-in_default t c = deeper (λ (n : ℕ). Wrong ≡ end_at c.args.s.now n branches c.args.at) c.args.n c.if-n-eq0.false
-    (branches_wrong c.args.s.now (c.args.n - 1) c.args.at (sym c.enum_told-1.given.1 ∙ c.branch_end.ensures))
+    (branches_wrong c.args.s.now (c.args.n - 1) c.args.at (sym c.in_default.is ∙ c.branch_end.ensures))
 
 pub branches_end-returns-then-byte_at-ne124 : goal.branches_end-returns-then-byte_at-ne124
-branches_end-returns-then-byte_at-ne124 t c = deeper (λ (n : ℕ). At c.i-1.given.0.0 ≡ end_at c.args.s.now n branches c.args.at) c.args.n c.if-n-eq0.false
-    (branches_last c.args.s.now (c.args.n - 1) c.args.at c.i-1.given.0.0 (sym c.i-1.given.1 ∙ c.branch_end.ensures) (λ e. c.if-byte_at-ne124.true (c.byte_at.ensures ∙ e)))
+branches_end-returns-then-byte_at-ne124 t c = deeper (λ (n : ℕ). At c.in-At.i ≡ end_at c.args.s.now n branches c.args.at) c.args.n c.if-n-eq0.false
+    (branches_last c.args.s.now (c.args.n - 1) c.args.at c.in-At.i (sym c.in-At.is ∙ c.branch_end.ensures) (λ e. c.if-byte_at-ne124.true (c.byte_at.ensures ∙ e)))
 
 pub branches_end-overflow_add-i : goal.branches_end-overflow_add-i
-branches_end-overflow_add-i t c = let h : c.i-1.given.0.0 ≤ length c.args.s.now = at_most c.args.s.now (c.args.n - 1) branch c.args.at c.i-1.given.0.0 (sym c.i-1.given.1 ∙ c.branch_end.ensures) in omega (arith, h)
+branches_end-overflow_add-i t c = let h : c.in-At.i ≤ length c.args.s.now = at_most c.args.s.now (c.args.n - 1) branch c.args.at c.in-At.i (sym c.in-At.is ∙ c.branch_end.ensures) in omega (arith, h)
 
 pub branches_end-overflow_sub-n-2 : goal.branches_end-overflow_sub-n-2
 branches_end-overflow_sub-n-2 t c = omega (arith, c.if-n-eq0.false)
@@ -98,7 +98,7 @@ branches_end-branches_end-requires t c = (omega (arith, c.if-n-eq0.false), tt)
 
 pub branches_end-returns : goal.branches_end-returns
 branches_end-returns t c = deeper (λ (n : ℕ). c.branches_end.result ≡ end_at c.args.s.now n branches c.args.at) c.args.n c.if-n-eq0.false
-    (c.branches_end.ensures ∙ branches_more c.args.s.now (c.args.n - 1) c.args.at c.i-1.given.0.0 (sym c.i-1.given.1 ∙ c.branch_end.ensures) (sym c.byte_at.ensures ∙ c.if-byte_at-ne124.false))
+    (c.branches_end.ensures ∙ branches_more c.args.s.now (c.args.n - 1) c.args.at c.in-At.i (sym c.in-At.is ∙ c.branch_end.ensures) (sym c.byte_at.ensures ∙ c.if-byte_at-ne124.false))
 
 pub piece_end-returns-then-n-eq0 : goal.piece_end-returns-then-n-eq0
 piece_end-returns-then-n-eq0 t c = no_depth c.args.s.now c.args.n piece c.args.at c.if-n-eq0.true
@@ -118,11 +118,11 @@ piece_end-atom_end-requires t c = (omega (arith, c.if-n-eq0.false), tt)
 
 pub piece_end-returns-in_default : goal.piece_end-returns-in_default
 piece_end-returns-in_default t c = deeper (λ (n : ℕ). Wrong ≡ end_at c.args.s.now n piece c.args.at) c.args.n c.if-n-eq0.false
-    (piece_wrong c.args.s.now (c.args.n - 1) c.args.at (ap (λ (b : ℕ). some_of (eqb b) (94 ∷ 36 ∷ [])) (sym c.byte_at.ensures) ∙ sym c.among.ensures ∙ c.if-among.false) (sym c.enum_told-1.given.1 ∙ c.atom_end.ensures))
+    (piece_wrong c.args.s.now (c.args.n - 1) c.args.at (ap (λ (b : ℕ). some_of (eqb b) (94 ∷ 36 ∷ [])) (sym c.byte_at.ensures) ∙ sym c.among.ensures ∙ c.if-among.false) (sym c.in_default.is ∙ c.atom_end.ensures))
 
 pub piece_end-repeat_end-requires : goal.piece_end-repeat_end-requires
-piece_end-repeat_end-requires t c = at_most c.args.s.now (c.args.n - 1) atom c.args.at c.i-1.given.0.0 (sym c.i-1.given.1 ∙ c.atom_end.ensures)
+piece_end-repeat_end-requires t c = at_most c.args.s.now (c.args.n - 1) atom c.args.at c.in-At.i (sym c.in-At.is ∙ c.atom_end.ensures)
 
 pub piece_end-returns : goal.piece_end-returns
 piece_end-returns t c = deeper (λ (n : ℕ). c.repeat_end.result ≡ end_at c.args.s.now n piece c.args.at) c.args.n c.if-n-eq0.false
-    (piece_repeat c.args.s.now (c.args.n - 1) c.args.at c.i-1.given.0.0 c.repeat_end.result (ap (λ (b : ℕ). some_of (eqb b) (94 ∷ 36 ∷ [])) (sym c.byte_at.ensures) ∙ sym c.among.ensures ∙ c.if-among.false) (sym c.i-1.given.1 ∙ c.atom_end.ensures) c.repeat_end.ensures)
+    (piece_repeat c.args.s.now (c.args.n - 1) c.args.at c.in-At.i c.repeat_end.result (ap (λ (b : ℕ). some_of (eqb b) (94 ∷ 36 ∷ [])) (sym c.byte_at.ensures) ∙ sym c.among.ensures ∙ c.if-among.false) (sym c.in-At.is ∙ c.atom_end.ensures) c.repeat_end.ensures)

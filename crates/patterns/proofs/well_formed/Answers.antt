@@ -3,7 +3,7 @@ use Rattle.patterns.proofs.PhraseLaws.{formed_wrong, formed_at}
 use Rattle.patterns.proofs.well_formed.Goals as goal
 
 pub returns-in_default : goal.returns-in_default
-returns-in_default c = formed_wrong c.args.s.now _ refl (sym c.enum_told-1.given.1 ∙ c.branches_end.ensures)
+returns-in_default c = formed_wrong c.args.s.now _ refl (sym c.in_default.is ∙ c.branches_end.ensures)
 
 pub returns : goal.returns
-returns c = formed_at c.args.s.now _ c.i-1.given.0.0 refl (sym c.i-1.given.1 ∙ c.branches_end.ensures)
+returns c = formed_at c.args.s.now _ c.in-At.i refl (sym c.in-At.is ∙ c.branches_end.ensures)

@@ -1,13 +1,7 @@
 use mathlib.Core.Path.{sym, ap, ◌∙◌}
 use Prim.Native.Nat.{ℕ, ◌/◌}
 use native.Mathlib.Nat.{div-zero}
-use borrow.Author.Rules.{rules}
 use Rattle.ratios.proofs.reduced.Goals as goal
-
-pub gcd-d-requires : goal.gcd-d-requires
-gcd-d-requires c = search rules
-
--- a number over 0 is 0
 
 pub returns-then-d-eq0 : goal.returns-then-d-eq0
 returns-then-d-eq0 c = let a = c.args in

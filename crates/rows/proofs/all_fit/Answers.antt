@@ -23,7 +23,7 @@ fits-requires c = tt
 
 pub returns-then-not-fits : goal.returns-then-not-fits
 returns-then-not-fits c = let l = c.loop-i in
-    fit_no _ _ _ l.i _ l.invariant.1 _ c.loop-i-test.true c.fits.ensures (not-true _ c.if-not-fits.true)
+    fit_no _ _ _ l.i _ l.invariant.1 _ c.loop-i-test.true c.fits.ensures (not-true _ c.if-not-fits.true-raw)
 
 pub overflow_add-i : goal.overflow_add-i
 overflow_add-i c = omega arith
@@ -33,7 +33,7 @@ loop-i-smaller c = omega arith
 
 pub loop-i-preserved : goal.loop-i-preserved
 loop-i-preserved c = let l = c.loop-i in
-    (omega arith, fit_yes _ _ _ l.i _ l.invariant.1 _ c.loop-i-test.true c.fits.ensures (not-false _ c.if-not-fits.false))
+    (omega arith, fit_yes _ _ _ l.i _ l.invariant.1 _ c.loop-i-test.true c.fits.ensures (not-false _ c.if-not-fits.false-raw))
 
 pub returns : goal.returns
 returns c = let l = c.loop-i in

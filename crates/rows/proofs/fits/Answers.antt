@@ -5,11 +5,11 @@ use Rattle.rows.proofs.fits.Goals as goal
 
 pub returns-in-21 : goal.returns-in-21
 returns-in-21 c = let a = c.args in
-    fits_closure (at a.fr.now) _ a.w _ _ c.count.ensures c.in-21.keys1 c.word_at.ensures
+    fits_closure (at a.fr.now) _ a.w _ _ c.count.ensures c.in-21.is c.word_at.ensures
 
 pub returns-in-24 : goal.returns-in-24
 returns-in-24 c = let a = c.args in
-    fits_count (at a.fr.now) _ a.w _ _ c.count-in-24.ensures c.in-24.keys2 c.word_at-in-24.ensures
+    fits_count (at a.fr.now) _ a.w _ _ c.count-in-24.ensures c.in-24.is c.word_at-in-24.ensures
 
 pub returns-in-29 : goal.returns-in-29
 returns-in-29 c = let a = c.args in

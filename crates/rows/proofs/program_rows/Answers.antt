@@ -16,7 +16,7 @@ shape_of-fr-in-Stop c = omega arith
 pub returns-in-Stop : goal.returns-in-Stop
 returns-in-Stop c = let a = c.args in
     let l = c.loop-k in
-    λ S p o e. stopped_at a.words.now a.ids.now a.known.now S l.k _ _ _ c.t-in-Stop-1.given.1 (c.step-t.ensures.rows S _ (l.invariant.4 S _ (all_parts a.words.now a.ids.now a.known.now S p o e)))
+    λ S p o e. stopped_at a.words.now a.ids.now a.known.now S l.k _ _ _ c.in-Stop.is (c.step-t.ensures.rows S _ (l.invariant.4 S _ (all_parts a.words.now a.ids.now a.known.now S p o e)))
 
 pub overflow_add-k : goal.overflow_add-k
 overflow_add-k c = omega arith
@@ -27,11 +27,11 @@ loop-k-smaller c = omega arith
 pub loop-k-preserved : goal.loop-k-preserved
 loop-k-preserved c = let a = c.args in
     let l = c.loop-k in (
-      near_on l.k _ _ c.t-1.given.1 c.step-t.ensures.small.1,
+      near_on l.k _ _ c.in-On.is c.step-t.ensures.small.1,
       omega arith,
       omega arith,
       c.step-t.ensures.small.0,
-      λ S total q. went_on a.words.now a.ids.now a.known.now S l.k _ total _ c.t-1.given.1 (c.step-t.ensures.rows S total (l.invariant.4 S total q)),
+      λ S total q. went_on a.words.now a.ids.now a.known.now S l.k _ total _ c.in-On.is (c.step-t.ensures.rows S total (l.invariant.4 S total q)),
     )
 
 pub shape_of-fr : goal.shape_of-fr

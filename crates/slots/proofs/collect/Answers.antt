@@ -1,5 +1,6 @@
 use Rattle.slots.proofs.Arrays.{going_on, going_end}
 use Rattle.slots.specs.Slots.{fits}
+use mathlib.Core.List.{[]}
 use mathlib.Core.Path.{refl}
 use Prim.Native.Nat.{◌-◌}
 use native.Mathlib.Omega.{arith}

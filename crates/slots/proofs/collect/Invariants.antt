@@ -1,6 +1,7 @@
 use Rattle.slots.proofs.Arrays.{Going}
 use Rattle.slots.specs.Slots.{names_of}
 use lib.ListN.{length}
+use mathlib.Core.List.{[]}
 use Prim.Native.Nat.{◌≤◌, ◌-◌}
 use Rattle.slots.proofs.collect.Given as goal
 

@@ -3,22 +3,22 @@ use Rattle.statements.specs.Blocks.{a_name, an_if, a_while, a_for, a_brace, a_pr
 use Rattle.statements.proofs.begins.Goals as goal
 
 pub returns-in-2 : goal.returns-in-2
-returns-in-2 c = a_brace (sym c.kind_at.ensures ∙ c.in-2.keys1)
+returns-in-2 c = a_brace (sym c.kind_at.ensures ∙ c.in-2.is)
 
 pub returns-in-23 : goal.returns-in-23
-returns-in-23 c = a_for (sym c.kind_at.ensures ∙ c.in-23.keys2)
+returns-in-23 c = a_for (sym c.kind_at.ensures ∙ c.in-23.is)
 
 pub returns-in-24 : goal.returns-in-24
-returns-in-24 c = an_if (sym c.kind_at.ensures ∙ c.in-24.keys3)
+returns-in-24 c = an_if (sym c.kind_at.ensures ∙ c.in-24.is)
 
 pub returns-in-30 : goal.returns-in-30
-returns-in-30 c = a_print (sym c.kind_at.ensures ∙ c.in-30.keys4)
+returns-in-30 c = a_print (sym c.kind_at.ensures ∙ c.in-30.is)
 
 pub returns-in-38 : goal.returns-in-38
-returns-in-38 c = a_while (sym c.kind_at.ensures ∙ c.in-38.keys5)
+returns-in-38 c = a_while (sym c.kind_at.ensures ∙ c.in-38.is)
 
 pub returns-in-47 : goal.returns-in-47
-returns-in-47 c = a_name (sym c.kind_at.ensures ∙ c.in-47.keys6)
+returns-in-47 c = a_name (sym c.kind_at.ensures ∙ c.in-47.is)
 
 pub returns-in_default : goal.returns-in_default
 returns-in_default c = record { no_name = λ e. c.in_default.rest.1 (c.kind_at.ensures ∙ e); no-if = λ e. c.in_default.rest.0.0.0.1 (c.kind_at.ensures ∙ e); no-while = λ e. c.in_default.rest.0.1 (c.kind_at.ensures ∙ e); no-for = λ e. c.in_default.rest.0.0.0.0.1 (c.kind_at.ensures ∙ e); no-brace = λ e. c.in_default.rest.0.0.0.0.0.1 (c.kind_at.ensures ∙ e); no-print = λ e. c.in_default.rest.0.0.1 (c.kind_at.ensures ∙ e) }

@@ -5,13 +5,13 @@ use mathlib.Core.Path.{sym, ◌∙◌}
 use Rattle.terms.proofs.atom.Goals as goal
 
 pub sign_between-requires : goal.sign_between-requires
-sign_between-requires c = let h = no_name_leaf _ c.args.p (⊎_elim (λ e. inl (sym c.kind_at.ensures ∙ e)) (λ e. inr (sym c.kind_at.ensures ∙ e)) c.in-14.keys1) in ((h.0, λ e f. h.1 e), c.requires.1)
+sign_between-requires c = let h = no_name_leaf _ c.args.p (⊎_elim (λ e. inl (sym c.kind_at.ensures ∙ e)) (λ e. inr (sym c.kind_at.ensures ∙ e)) c.in-14.is) in ((h.0, λ e f. h.1 e), c.requires.1)
 
 pub truth-requires : goal.truth-requires
-truth-requires c = (true_here (sym c.kind_at.ensures ∙ c.in-39.keys2), c.requires.1)
+truth-requires c = (true_here (sym c.kind_at.ensures ∙ c.in-39.is), c.requires.1)
 
 pub truth-requires-in-40 : goal.truth-requires-in-40
-truth-requires-in-40 c = (false_here (sym c.kind_at.ensures ∙ c.in-40.keys3), c.requires.1)
+truth-requires-in-40 c = (false_here (sym c.kind_at.ensures ∙ c.in-40.is), c.requires.1)
 
 pub sign_before-requires : goal.sign_before-requires
 sign_before-requires c = (sign_here _ _ c.kind_at.ensures c.if-this-lt39.false c.in_default-1.rest.0.0.0.1 c.in_default-1.rest.0.0.1 c.if-this-lt47.true, c.requires.1)

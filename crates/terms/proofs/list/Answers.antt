@@ -42,3 +42,24 @@ loop-p-smaller c = let l = kind_within c.args.tokens.now (c.loop-p.q + 1) (omega
 
 pub loop-p-preserved : goal.loop-p-preserved
 loop-p-preserved c = run_on c.loop-p.invariant _ c.leaf_at-w.ensures c.if-w-eq0.false (sym c.kind_at-k.ensures ∙ c.if-k-ne6.false)
+
+pub overflow_add-result : goal.overflow_add-result
+overflow_add-result c = omega arith
+
+pub leaf_at-w-requires : goal.leaf_at-w-requires
+leaf_at-w-requires c = omega arith
+
+pub overflow_add-m : goal.overflow_add-m
+overflow_add-m c = omega arith
+
+pub overflow_add-q : goal.overflow_add-q
+overflow_add-q c = omega arith
+
+pub overflow_add-result-then-k-eq1 : goal.overflow_add-result-then-k-eq1
+overflow_add-result-then-k-eq1 c = omega arith
+
+pub overflow_add-result-then-k-ne6 : goal.overflow_add-result-then-k-ne6
+overflow_add-result-then-k-ne6 c = omega arith
+
+pub overflow_add-q-in-loop-p : goal.overflow_add-q-in-loop-p
+overflow_add-q-in-loop-p c = omega arith

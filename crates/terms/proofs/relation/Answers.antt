@@ -9,25 +9,25 @@ pub list-a-requires : goal.list-a-requires
 list-a-requires c = let l = kind_within c.args.tokens.now (c.args.p + 1) (omega arith) in omega arith
 
 pub returns-in_default : goal.returns-in_default
-returns-in_default c = relation_fails c.requires.0 c.requires.1.0 c.list-a.ensures c.enum_told-1.given.1
+returns-in_default c = relation_fails c.requires.0 c.requires.1.0 c.list-a.ensures c.in_default.is
 
 pub overflow_sub-k : goal.overflow_sub-k
-overflow_sub-k c = let u = listed_of c.list-a.ensures c.a-1.given.1 in omega arith
+overflow_sub-k c = let u = listed_of c.list-a.ensures c.in-Read.is in omega arith
 
 pub overflow_sub-k-2 : goal.overflow_sub-k-2
-overflow_sub-k-2 c = let u = listed_of c.list-a.ensures c.a-1.given.1 in omega arith
+overflow_sub-k-2 c = let u = listed_of c.list-a.ensures c.in-Read.is in omega arith
 
 pub pack-requires : goal.pack-requires
-pack-requires c = let u = listed_of c.list-a.ensures c.a-1.given.1 in omega arith
+pack-requires c = let u = listed_of c.list-a.ensures c.in-Read.is in omega arith
 
 pub bounds-words-n : goal.bounds-words-n
-bounds-words-n c = let u = listed_of c.list-a.ensures c.a-1.given.1 in omega arith
+bounds-words-n c = let u = listed_of c.list-a.ensures c.in-Read.is in omega arith
 
 pub pack-requires-2 : goal.pack-requires-2
-pack-requires-2 c = let u = listed_of c.list-a.ensures c.a-1.given.1 in omega arith
+pack-requires-2 c = let u = listed_of c.list-a.ensures c.in-Read.is in omega arith
 
 pub bounds-words-m : goal.bounds-words-m
-bounds-words-m c = let u = listed_of c.list-a.ensures c.a-1.given.1 in simp length-set (omega arith)
+bounds-words-m c = let u = listed_of c.list-a.ensures c.in-Read.is in simp length-set (omega arith)
 
 pub returns : goal.returns
-returns c = relation_reads c.requires.0 c.requires.1.0 c.list-a.ensures c.a-1.given.1 c.pack.ensures c.pack-2.ensures
+returns c = relation_reads c.requires.0 c.requires.1.0 c.list-a.ensures c.in-Read.is c.pack.ensures c.pack-2.ensures

@@ -12,16 +12,16 @@ pub list-a-requires : goal.list-a-requires
 list-a-requires c = let l = kind_within c.args.tokens.now (c.args.p + 1) (omega arith) in omega arith
 
 pub returns-in_default : goal.returns-in_default
-returns-in_default c = truth_stops _ _ _ _ _ c.requires.0 (sym c.kind_at.ensures ∙ c.if-kind_at-ne0.false) c.list-a.ensures c.enum_told-1.given.1
+returns-in_default c = truth_stops _ _ _ _ _ c.requires.0 (sym c.kind_at.ensures ∙ c.if-kind_at-ne0.false) c.list-a.ensures c.in_default.is
 
 pub overflow_sub-m : goal.overflow_sub-m
-overflow_sub-m c = let u = listed_of c.list-a.ensures c.a-1.given.1 in omega arith
+overflow_sub-m c = let u = listed_of c.list-a.ensures c.in-Read.is in omega arith
 
 pub pack-requires : goal.pack-requires
-pack-requires c = let u = listed_of c.list-a.ensures c.a-1.given.1 in omega (arith, truth_small c.requires.0)
+pack-requires c = let u = listed_of c.list-a.ensures c.in-Read.is in omega (arith, truth_small c.requires.0)
 
 pub bounds-words-m : goal.bounds-words-m
-bounds-words-m c = let u = listed_of c.list-a.ensures c.a-1.given.1 in omega arith
+bounds-words-m c = let u = listed_of c.list-a.ensures c.in-Read.is in omega arith
 
 pub returns : goal.returns
-returns c = truth_reads _ _ _ _ _ c.requires.0 (sym c.kind_at.ensures ∙ c.if-kind_at-ne0.false) c.list-a.ensures c.a-1.given.1 c.pack.ensures
+returns c = truth_reads _ _ _ _ _ c.requires.0 (sym c.kind_at.ensures ∙ c.if-kind_at-ne0.false) c.list-a.ensures c.in-Read.is c.pack.ensures

@@ -1,6 +1,6 @@
-use borrow.Author.Rules.{rules}
 use Prim.Native.Nat.{ℕ, ◌-◌, ◌*◌}
 use mathlib.Core.Path.{◌≡◌, sym, ap, ◌∙◌}
+use mathlib.Core.List.{[]}
 use native.Mathlib.Omega.{arith}
 use native.Mathlib.Nat.{add-sub_cancel_left}
 use lib.ListN.{get_or, take, drop}
@@ -8,19 +8,10 @@ use Rattle.definition.specs.Text.{Text, same, reserved}
 use Rattle.definition.specs.Token.{FIRST_WORD}
 use Rattle.texts.proofs.WordTable.{letters, lengths, row_short, row_word, search_start, search_found, search_next, search_end, name_terminal}
 use Rattle.texts.proofs.reserved_word.Goals as goal
-use Rattle.texts.proofs.reserved_word.Goals.{After-same}
-
-compared : (c : After-same)
-    → c.same.result ≡ same (get_or reserved c.loop-k.k []) c.args.w.now
-unfolding lengths letters
-compared c =
-    c.same.ensures
-    ∙ ap (λ (l : Text). same l c.args.w.now)
-    (ap (λ (n : ℕ). take n (drop (c.loop-k.k * 7) letters)) (add-sub_cancel_left (c.loop-k.k * 7) _) ∙ row_word c.loop-k.k (omega (arith, c.loop-k-test.true)))
 
 pub returns-then-is_other : goal.returns-then-is_other
 returns-then-is_other c = let n = c.is_other.ensures c.if-is_other.true in
-    (sym n, (λ i. name_terminal _ reserved FIRST_WORD i n, omega arith))
+    record { listed = sym n; terminal = λ i. name_terminal _ reserved FIRST_WORD i n; index = omega arith }
 
 pub loop-k-init : goal.loop-k-init
 loop-k-init c = (omega arith, search_start _)
@@ -50,13 +41,13 @@ pub slice_bounds-same-end : goal.slice_bounds-same-end
 unfolding lengths
 slice_bounds-same-end c = omega (arith, row_short c.loop-k.k (omega arith))
 
-pub same-requires : goal.same-requires
-same-requires c = search rules
-
--- what the call of `same` answers is whether the word is that of the row
-
 pub returns-then-same : goal.returns-then-same
-returns-then-same c = let f = search_found _ c.loop-k.k (omega (arith, c.loop-k-test.true)) c.loop-k.invariant.1 (sym (compared (goal.at.returns-then-same c).After-same) ∙ c.if-same.true) in (f.0, (f.1, omega (arith, c.loop-k-test.true)))
+unfolding lengths letters
+returns-then-same c = 
+    let compared : c.same.result ≡ same (get_or reserved c.loop-k.k []) c.args.w.now = c.same.ensures
+        ∙ ap (λ (l : Text). same l c.args.w.now)
+        (ap (λ (n : ℕ). take n (drop (c.loop-k.k * 7) letters)) (add-sub_cancel_left (c.loop-k.k * 7) _) ∙ row_word c.loop-k.k (omega (arith, c.loop-k-test.true))) in
+    let f = search_found _ c.loop-k.k (omega (arith, c.loop-k-test.true)) c.loop-k.invariant.1 (sym (compared) ∙ c.if-same.true) in record { listed = f.0; terminal = f.1; index = omega (arith, c.loop-k-test.true) }
 
 pub overflow_add-k : goal.overflow_add-k
 overflow_add-k c = omega arith
@@ -65,7 +56,12 @@ pub loop-k-smaller : goal.loop-k-smaller
 loop-k-smaller c = omega arith
 
 pub loop-k-preserved : goal.loop-k-preserved
-loop-k-preserved c = (omega arith, search_next _ c.loop-k.k (omega (arith, c.loop-k-test.true)) c.loop-k.invariant.1 (sym (compared (goal.at.loop-k-preserved c).After-same) ∙ c.if-same.false))
+unfolding lengths letters
+loop-k-preserved c = 
+    let compared : c.same.result ≡ same (get_or reserved c.loop-k.k []) c.args.w.now = c.same.ensures
+        ∙ ap (λ (l : Text). same l c.args.w.now)
+        (ap (λ (n : ℕ). take n (drop (c.loop-k.k * 7) letters)) (add-sub_cancel_left (c.loop-k.k * 7) _) ∙ row_word c.loop-k.k (omega (arith, c.loop-k-test.true))) in
+    (omega arith, search_next _ c.loop-k.k (omega (arith, c.loop-k-test.true)) c.loop-k.invariant.1 (sym (compared) ∙ c.if-same.false))
 
 pub returns : goal.returns
-returns c = let f = search_end _ c.loop-k.k (omega arith) c.loop-k.invariant.1 in (f.0, (f.1, omega arith))
+returns c = let f = search_end _ c.loop-k.k (omega arith) c.loop-k.invariant.1 in record { listed = f.0; terminal = f.1; index = omega arith }

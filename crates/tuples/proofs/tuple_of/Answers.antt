@@ -7,11 +7,6 @@ use lib.ListN.{length, set, take, drop, length-set}
 use Rattle.tuples.specs.Places.{digits}
 use Rattle.tuples.proofs.Turns.{digit_step, digits_whole, digits_none, base_pos}
 use Rattle.tuples.proofs.tuple_of.Goals as goal
-use Rattle.tuples.proofs.tuple_of.Goals.{In-loop-k}
-
-positive : (c : In-loop-k) → 0 < c.args.u
-positive c =
-    base_pos c.args.u c.args.n c.args.i c.requires.1 (omega arith)
 
 pub loop-k-init : goal.loop-k-init
 loop-k-init c = (omega arith, refl, digits_whole c.args.u c.args.n c.args.i _)
@@ -20,16 +15,22 @@ pub overflow_sub-k : goal.overflow_sub-k
 overflow_sub-k c = omega arith
 
 pub nonzero_rem-t : goal.nonzero_rem-t
-nonzero_rem-t c = omega (arith, positive (goal.at.nonzero_rem-t c).In-loop-k)
+nonzero_rem-t c = 
+    let positive : 0 < c.args.u = base_pos c.args.u c.args.n c.args.i c.requires.1 (omega arith) in
+    omega (arith, positive)
 
 pub overflow_cast-t-in-loop-k : goal.overflow_cast-t-in-loop-k
-overflow_cast-t-in-loop-k c = omega (arith, mod-lt c.loop-k.rest (positive (goal.at.overflow_cast-t-in-loop-k c).In-loop-k))
+overflow_cast-t-in-loop-k c = 
+    let positive : 0 < c.args.u = base_pos c.args.u c.args.n c.args.i c.requires.1 (omega arith) in
+    omega (arith, mod-lt c.loop-k.rest (positive))
 
 pub bounds-t-k : goal.bounds-t-k
 bounds-t-k c = omega arith
 
 pub nonzero_div-rest : goal.nonzero_div-rest
-nonzero_div-rest c = omega (arith, positive (goal.at.nonzero_div-rest c).In-loop-k)
+nonzero_div-rest c = 
+    let positive : 0 < c.args.u = base_pos c.args.u c.args.n c.args.i c.requires.1 (omega arith) in
+    omega (arith, positive)
 
 pub loop-k-smaller : goal.loop-k-smaller
 loop-k-smaller c = omega arith

@@ -1,0 +1,13 @@
+use mathlib.Core.Path.{refl}
+use native.Mathlib.Omega.{arith}
+use Rattle.closure.proofs.Laws.{narrow_rows}
+use Rattle.closure_test.proofs.ring.Goals as goal
+
+pub works-requires : goal.works-requires
+works-requires c = record { m_in_bounds = (omega arith, narrow_rows _ _ tt); rows_value = refl }
+
+pub works-requires-2 : goal.works-requires-2
+works-requires-2 c = record { m_in_bounds = (omega arith, narrow_rows _ _ tt); rows_value = refl }
+
+pub works-requires-3 : goal.works-requires-3
+works-requires-3 c = record { m_in_bounds = (omega arith, narrow_rows _ _ tt); rows_value = refl }

@@ -1,0 +1,6 @@
+use borrow.Author.Rules.{rules}
+use mathlib.Core.Path.{refl}
+use Rattle.element_test.proofs.line_ends.Goals as goal
+
+pub in_facts-requires : goal.in_facts-requires
+in_facts-requires c = record { place = refl; bytes = refl; inside = search rules }

@@ -1,0 +1,11 @@
+use mathlib.Core.Path.{refl}
+use Rattle.prints_test.proofs.prints_rows.Goals as goal
+
+pub prints-requires : goal.prints-requires
+prints-requires c = record { end = refl; bytes = refl }
+
+pub prints-requires-2 : goal.prints-requires-2
+prints-requires-2 c = record { end = refl; bytes = refl }
+
+pub prints-requires-3 : goal.prints-requires-3
+prints-requires-3 c = record { end = refl; bytes = refl }

@@ -1,0 +1,33 @@
+use borrow.Author.Tests.{eq-eqb}
+use Rattle.definition.specs.Decimals.{gcd}
+use Rattle.ratios_test.proofs.main.Goals as goal
+
+pub expect-requires : goal.expect-requires
+expect-requires c = eq-eqb _ _ c.gcd.ensures
+
+pub expect-requires-2 : goal.expect-requires-2
+expect-requires-2 c = eq-eqb _ _ c.gcd-2.ensures
+
+pub expect-requires-3 : goal.expect-requires-3
+expect-requires-3 c = eq-eqb _ _ c.gcd-3.ensures
+
+pub expect-requires-4 : goal.expect-requires-4
+expect-requires-4 c = eq-eqb _ _ c.gcd-4.ensures
+
+pub expect-requires-5 : goal.expect-requires-5
+expect-requires-5 c = eq-eqb _ _ c.gcd-5.ensures
+
+pub expect-requires-6 : goal.expect-requires-6
+expect-requires-6 c = eq-eqb _ _ c.reduced-most.ensures.0
+
+pub expect-requires-7 : goal.expect-requires-7
+expect-requires-7 c = eq-eqb _ _ c.reduced-most.ensures.1
+
+pub expect-requires-8 : goal.expect-requires-8
+expect-requires-8 c = eq-eqb _ _ c.reduced-none.ensures.0
+
+pub expect-requires-9 : goal.expect-requires-9
+expect-requires-9 c = eq-eqb _ _ c.reduced-none.ensures.1
+
+pub expect-requires-10 : goal.expect-requires-10
+expect-requires-10 c = eq-eqb _ _ c.reduced-zero.ensures.1
