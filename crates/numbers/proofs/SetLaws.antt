@@ -18,6 +18,7 @@ pub not_in : {x : ℕ} → In x [] → ⊥
 not_in {x} h = go [] h refl
   where
     go : (l : List ℕ) → In x l → l ≡ [] → ⊥
+    go [] x3 q = elim x3 [ ]
     go (w ∷ ws) (here e) q = let z : ◌≡◌ {A = ℕ} 0 1 = cc in omega arith
     go (w ∷ ws) (there i) q = let z : ◌≡◌ {A = ℕ} 0 1 = cc in omega arith
 
