@@ -215,7 +215,7 @@ fn string_at(text: &[u8], at: usize) -> Segment
 // The identifier, the reserved word or "_" alone at the place at.
 fn word_at(text: &[u8], at: usize) -> Segment
     requires { at < length text.now }
-    ensures value { piece_of (drop at text.now) result ≡ word (take (span is-part (drop at text.now)) (drop at text.now)) }
+    ensures value { piece_of (drop at text.now) result ≡ word (take (span is_part (drop at text.now)) (drop at text.now)) }
     ensures small { Small result }
 {
     let end = run_end(text, at, Class::Part);
@@ -267,7 +267,7 @@ fn slash_at(text: &[u8], at: usize) -> Segment
 
 // Whether x is one of the blanks 9, 10 and 32.
 fn separates(x: u8) -> bool
-    ensures { result ≡ (is-blank x || eqb x 10) }
+    ensures { result ≡ (is_blank x || eqb x 10) }
 {
     if x == 9 {
         return true;

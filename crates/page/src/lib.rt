@@ -7,7 +7,7 @@ ghost use Rattle.definition.specs.Decimals.{decimal};
 ghost use Rattle.definition.specs.Page.{page};
 ghost use Rattle.lines.specs.Put.{Put};
 ghost use Rattle.page.specs.Closing.{refusal_text, Closes};
-ghost use Rattle.page.specs.Closing.{shown as bytes-shown};
+ghost use Rattle.page.specs.Closing.{shown as bytes_shown};
 
 use definition::{Ending, Ran, Refusal, Stopped};
 use lines::{put, put_decimal, put_text};
@@ -75,7 +75,7 @@ pub fn close(a: Ran, out: &mut [u8]) -> usize
 
 // How many bytes of the output stand before the closing line.
 pub fn shown(a: Ran) -> usize
-    ensures { result ≡ bytes-shown a }
+    ensures { result ≡ bytes_shown a }
 {
     match a {
         Ran::Ended(s) => s.written,

@@ -32,4 +32,4 @@ unfolding is_statement
 returns-in-37 c = rw c.in-37.is refl
 
 pub returns-in_default : goal.returns-in_default
-returns-in_default c = no_statement _ c.in_default.rest
+returns-in_default c = no_statement _ c.in_default.in_default-own.rest

@@ -15,7 +15,7 @@ run_end-n-requires c = c.loop-i.invariant.0
 pub returns-then-not-legal_at : goal.returns-then-not-legal_at
 returns-then-not-legal_at c = let l = c.loop-i in
     let run-end = c.run_end-n in
-    record { value = legal_end c.args.facts.now l.i run-end.result run-end.ensures.0 l.invariant.1 (sym c.legal_at.ensures ∙ not-true _ c.if-not-legal_at.true-raw); within = run-end.ensures.1.1 }
+    record { value = legal_end c.args.facts.now l.i run-end.result run-end.ensures.value l.invariant.1 (sym c.legal_at.ensures ∙ not-true _ c.if-not-legal_at.true-raw); within = run-end.ensures.within.1 }
 
 pub overflow_add-i : goal.overflow_add-i
 overflow_add-i c = let xs = c.args.facts.now in
@@ -35,4 +35,4 @@ loop-i-preserved c = let l = c.loop-i in
     let xs = c.args.facts.now in
     let e = sym c.legal_at.ensures ∙ not-false _ c.if-not-legal_at.false-raw in
     let h : run-end.result < length xs = legal_within xs run-end.result e in
-    (omega (arith, h), legal_more xs l.i run-end.result run-end.ensures.0 l.invariant.1 e)
+    (omega (arith, h), legal_more xs l.i run-end.result run-end.ensures.value l.invariant.1 e)

@@ -19,7 +19,7 @@ overflow_add-result c = omega arith
 pub returns-then-e-facts : goal.returns-then-e-facts
 returns-then-e-facts c = let l = c.loop-a in
     let run-end = c.run_end-e in
-    to_last c.args.facts.now l.a run-end.result l.invariant.0 run-end.ensures.0 run-end.ensures.1.1 l.invariant.1 (sym c.starts_with.ensures ∙ c.if-starts_with.false) c.if-e-facts.true
+    to_last c.args.facts.now l.a run-end.result l.invariant.0 run-end.ensures.value run-end.ensures.within.1 l.invariant.1 (sym c.starts_with.ensures ∙ c.if-starts_with.false) c.if-e-facts.true
 
 pub overflow_add-a : goal.overflow_add-a
 overflow_add-a c = omega arith
@@ -30,4 +30,4 @@ loop-a-smaller c = omega arith
 pub loop-a-preserved : goal.loop-a-preserved
 loop-a-preserved c = let l = c.loop-a in
     let run-end = c.run_end-e in
-    (omega arith, to_next c.args.facts.now l.a run-end.result l.invariant.0 run-end.ensures.0 run-end.ensures.1.1 l.invariant.1 (sym c.starts_with.ensures ∙ c.if-starts_with.false) (omega arith))
+    (omega arith, to_next c.args.facts.now l.a run-end.result l.invariant.0 run-end.ensures.value run-end.ensures.within.1 l.invariant.1 (sym c.starts_with.ensures ∙ c.if-starts_with.false) (omega arith))

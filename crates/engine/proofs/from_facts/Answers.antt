@@ -9,5 +9,5 @@ returns c = let load = c.load_facts in
     c.steps.ensures w c.args.store.now
     (begins c.args.facts.now c.args.query.now c.args.relations.now c.args.places.now c.args.low.now w g c.args.firsts.now c.args.room.scratch c.args.room.words l _ refl _
     c.args.store.now _ (omega (arith, c.requires))
-    (load.ensures.0 w (ready c.args.facts.now c.args.query.now c.args.relations.now c.args.places.now c.args.low.now w g c.args.firsts.now c.args.room.scratch c.args.room.words l _ refl) l.needed)
+    (load.ensures.value w (ready c.args.facts.now c.args.query.now c.args.relations.now c.args.places.now c.args.low.now w g c.args.firsts.now c.args.room.scratch c.args.room.words l _ refl) l.needed)
     c.count_all-sizes.ensures)

@@ -14,4 +14,4 @@ pub returns-in-54 : goal.returns-in-54
 returns-in-54 c = literal_large _ _ _ _ (sym c.kind_at.ensures ∙ c.in-54.is)
 
 pub returns-in_default : goal.returns-in_default
-returns-in_default c = no_literal_here _ _ _ _ (omega arith) (record { no-count = c.requires.0; no-literal = λ e. c.in_default.rest.0.1 (c.kind_at.ensures ∙ e); no-large-literal = λ e. c.in_default.rest.1 (c.kind_at.ensures ∙ e) })
+returns-in_default c = no_literal_here _ _ _ _ (omega arith) (record { no_count = c.requires.0; no_literal = λ e. c.in_default.in_default-own.rest.0.1 (c.kind_at.ensures ∙ e); no_large_literal = λ e. c.in_default.in_default-own.rest.1 (c.kind_at.ensures ∙ e) })

@@ -11,7 +11,7 @@ use Rattle.facts.specs.declared.Next.TheVariants.{Found}
 use Rattle.facts.proofs.read_elements.Goals as goal
 
 pub loop-p-init : goal.loop-p-init
-loop-p-init c = (c.requires.0, refl, record { name = c.requires.1; name-end = c.requires.0; arity = omega arith; first = c.no_item-none.ensures _; second = c.no_item-none.ensures _; third = c.no_item-none.ensures _ }, read_start _ _ _ refl)
+loop-p-init c = (c.requires.0, refl, record { name = c.requires.1; name_end = c.requires.0; arity = omega arith; first = c.no_item-none.ensures _; second = c.no_item-none.ensures _; third = c.no_item-none.ensures _ }, read_start _ _ _ refl)
 
 pub returns-in-Nothing : goal.returns-in-Nothing
 returns-in-Nothing c = record { value = read_nothing _ _ _ _ c.loop-p.invariant.1 c.loop-p.invariant.3 (λ i. c.next_at.ensures.value i ∙ ap (word_of _ i) c.in-Nothing.is); within = c.loop-p.invariant.2 }

@@ -67,7 +67,7 @@ returns-in-Refused c =
         subst (ReadWithin (length (take (a.e - a.a) (drop a.a a.facts.now)))) told c.read_line.ensures.within in
     let f = c.f-1 in
     let with_fact = c.with_fact in
-    taken_refused c.args.facts.now c.args.query.now c.args.a c.args.e c.requires.2 c.requires.3 f.given.0.0 (within _ f.given.1) (role_is _ f.given.1) c.args.relations.now with_fact.new.1.1.0 c.args.universe.now with_fact.new.1.1.1.0 c.args.c c.in-Refused.q (subst (FactTaken c.args.facts.now c.args.query.now c.args.a f.given.0.0 c.args.relations.now with_fact.new.1.1.0 c.args.universe.now with_fact.new.1.1.1.0 c.args.c) c.in-Refused.is with_fact.ensures)
+    taken_refused c.args.facts.now c.args.query.now c.args.a c.args.e c.requires.2 c.requires.3 f.given.0.0 (within _ f.given.1) (role_is _ f.given.1) c.args.relations.now with_fact.new.hints c.args.universe.now with_fact.new.1.1.1.0 c.args.c c.in-Refused.q (subst (FactTaken c.args.facts.now c.args.query.now c.args.a f.given.0.0 c.args.relations.now with_fact.new.hints c.args.universe.now with_fact.new.1.1.1.0 c.args.c) c.in-Refused.is with_fact.ensures)
 
 pub returns-in-Fits : goal.returns-in-Fits
 returns-in-Fits c = 
@@ -77,4 +77,4 @@ returns-in-Fits c =
         subst (ReadWithin (length (take (a.e - a.a) (drop a.a a.facts.now)))) told c.read_line.ensures.within in
     let f = c.f-1 in
     let with_fact = c.with_fact in
-    taken_fact c.args.facts.now c.args.query.now c.args.a c.args.e c.requires.2 c.requires.3 f.given.0.0 (within _ f.given.1) (role_is _ f.given.1) c.args.relations.now with_fact.new.1.1.0 c.args.universe.now with_fact.new.1.1.1.0 c.args.c c.in-Fits.d (subst (FactTaken c.args.facts.now c.args.query.now c.args.a f.given.0.0 c.args.relations.now with_fact.new.1.1.0 c.args.universe.now with_fact.new.1.1.1.0 c.args.c) c.in-Fits.is with_fact.ensures)
+    taken_fact c.args.facts.now c.args.query.now c.args.a c.args.e c.requires.2 c.requires.3 f.given.0.0 (within _ f.given.1) (role_is _ f.given.1) c.args.relations.now with_fact.new.hints c.args.universe.now with_fact.new.1.1.1.0 c.args.c c.in-Fits.d (subst (FactTaken c.args.facts.now c.args.query.now c.args.a f.given.0.0 c.args.relations.now with_fact.new.hints c.args.universe.now with_fact.new.1.1.1.0 c.args.c) c.in-Fits.is with_fact.ensures)

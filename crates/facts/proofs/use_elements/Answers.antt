@@ -28,7 +28,7 @@ loop-i-preserved c = let l = c.loop-i in
     let item-at = c.item_at-x in
     let element-word = c.element_word in
     let enter-hinted = c.enter_hinted in
-    let g = entering_next c.args.facts.now c.args.query.now c.args.a c.args.f c.args.universe.now c.args.n l.universe l.count l.i l.invariant.2 c.requires.3.arity c.loop-i-test.true (within_item _ _ l.i c.requires.3).len _ _ (enter-hinted.ensures.1 ∙ rw (element-word.ensures, item-at.ensures)) (sym c.in-Count.is ∙ enter-hinted.ensures.0 ∙ rw (element-word.ensures, item-at.ensures)) in (held_length g.held, omega (arith, c.loop-i-test.true), g)
+    let g = entering_next c.args.facts.now c.args.query.now c.args.a c.args.f c.args.universe.now c.args.n l.universe l.count l.i l.invariant.2 c.requires.3.arity c.loop-i-test.true (within_item _ _ l.i c.requires.3).len _ _ (enter-hinted.ensures.words ∙ rw (element-word.ensures, item-at.ensures)) (sym c.in-Count.is ∙ enter-hinted.ensures.value ∙ rw (element-word.ensures, item-at.ensures)) in (held_length g.held, omega (arith, c.loop-i-test.true), g)
 
 pub returns : goal.returns
 returns c = entering_end c.args.facts.now c.args.query.now c.args.a c.args.f c.args.universe.now c.args.n c.loop-i.universe c.loop-i.count c.loop-i.i c.loop-i.invariant.2 c.loop-i-test.false c.requires.3.arity

@@ -37,10 +37,10 @@ returns-in-TooMany c =
         let new = c.use_relation.new.1.1.0 in
         subst (λ (v : ℕ). RelationUsed a.facts.now a.query.now v a.relations.now new a.c.relations u) c.packed.ensures
         (subst (RelationUsed a.facts.now a.query.now c.packed.result a.relations.now new a.c.relations) told c.use_relation.ensures) in
-    let universe_used : (u : ElementsUsed) → c.use_elements.result ≡ u → UniverseUsed c.args.facts.now c.args.query.now c.args.a c.args.f c.args.universe.now c.use_elements.new.hints.1.0 c.args.c.elements u = λ u told. let a = c.args in
-        subst (UniverseUsed a.facts.now a.query.now a.a a.f a.universe.now c.use_elements.new.hints.1.0 a.c.elements) told c.use_elements.ensures in
+    let universe_used : (u : ElementsUsed) → c.use_elements.result ≡ u → UniverseUsed c.args.facts.now c.args.query.now c.args.a c.args.f c.args.universe.now c.use_elements.new.1.1.0 c.args.c.elements u = λ u told. let a = c.args in
+        subst (UniverseUsed a.facts.now a.query.now a.a a.f a.universe.now c.use_elements.new.1.1.0 a.c.elements) told c.use_elements.ensures in
     let r = c.r-1 in
-    taken_many c.args.facts.now c.args.query.now c.args.a c.args.f c.requires.4.arity c.requires.4.name c.args.relations.now c.args.universe.now c.args.c c.use_relation.new.1.1.0 c.use_elements.new.hints.1.0 r.given.0.0 (relation_used _ r.given.1) c.in-TooMany.p (universe_used _ c.in-TooMany.is)
+    taken_many c.args.facts.now c.args.query.now c.args.a c.args.f c.requires.4.arity c.requires.4.name c.args.relations.now c.args.universe.now c.args.c c.use_relation.new.1.1.0 c.use_elements.new.1.1.0 r.given.0.0 (relation_used _ r.given.1) c.in-TooMany.p (universe_used _ c.in-TooMany.is)
 
 pub returns-in-Elements : goal.returns-in-Elements
 returns-in-Elements c = 
@@ -48,7 +48,7 @@ returns-in-Elements c =
         let new = c.use_relation.new.1.1.0 in
         subst (λ (v : ℕ). RelationUsed a.facts.now a.query.now v a.relations.now new a.c.relations u) c.packed.ensures
         (subst (RelationUsed a.facts.now a.query.now c.packed.result a.relations.now new a.c.relations) told c.use_relation.ensures) in
-    let universe_used : (u : ElementsUsed) → c.use_elements.result ≡ u → UniverseUsed c.args.facts.now c.args.query.now c.args.a c.args.f c.args.universe.now c.use_elements.new.hints.1.0 c.args.c.elements u = λ u told. let a = c.args in
-        subst (UniverseUsed a.facts.now a.query.now a.a a.f a.universe.now c.use_elements.new.hints.1.0 a.c.elements) told c.use_elements.ensures in
+    let universe_used : (u : ElementsUsed) → c.use_elements.result ≡ u → UniverseUsed c.args.facts.now c.args.query.now c.args.a c.args.f c.args.universe.now c.use_elements.new.1.1.0 c.args.c.elements u = λ u told. let a = c.args in
+        subst (UniverseUsed a.facts.now a.query.now a.a a.f a.universe.now c.use_elements.new.1.1.0 a.c.elements) told c.use_elements.ensures in
     let r = c.r-1 in
-    taken_fits c.args.facts.now c.args.query.now c.args.a c.args.f c.requires.4.arity c.requires.4.name c.args.relations.now c.args.universe.now c.args.c c.use_relation.new.1.1.0 c.use_elements.new.hints.1.0 r.given.0.0 (relation_used _ r.given.1) c.in-Elements.e (universe_used _ c.in-Elements.is)
+    taken_fits c.args.facts.now c.args.query.now c.args.a c.args.f c.requires.4.arity c.requires.4.name c.args.relations.now c.args.universe.now c.args.c c.use_relation.new.1.1.0 c.use_elements.new.1.1.0 r.given.0.0 (relation_used _ r.given.1) c.in-Elements.e (universe_used _ c.in-Elements.is)

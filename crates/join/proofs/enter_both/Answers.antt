@@ -20,4 +20,4 @@ returns c = let e = c.enter_facts in
     let t₄ = c.turn-4.ensures in
     let r = relations_back c.args.first.now c.args.second.now c.args.relations.now c.args.universe.now _ _ _ _ t t₂ t₃ t₄ in
     let u = elements_back c.args.first.now c.args.second.now c.args.relations.now c.args.universe.now _ _ _ _ t t₂ t₃ t₄ in
-    record { value = both_entered c.args.first.now c.args.second.now c.args.relations.now c.args.universe.now _ _ _ _ t t₂ t₃ t₄ _ _ e₁.ensures.0 e.ensures.0; within = omega (arith, e.ensures.1.0, e₁.ensures.1.0); lists = (r, u) }
+    record { value = both_entered c.args.first.now c.args.second.now c.args.relations.now c.args.universe.now _ _ _ _ t t₂ t₃ t₄ _ _ e₁.ensures.value e.ensures.value; within = omega (arith, e.ensures.within, e₁.ensures.within); lists = (r, u) }

@@ -86,4 +86,4 @@ unfolding first_mark marks starts terminal_of sign_of quote_of
 returns-in-47 c = is_mark refl c.in-47.is (record { piece = λ xs. refl; small = small 52 1 tt tt })
 
 pub returns-in_default : goal.returns-in_default
-returns-in_default c = let a = c.args in no_mark a.x a.y a.z c.in_default.rest
+returns-in_default c = let a = c.args in no_mark a.x a.y a.z c.in_default.in_default-own.rest

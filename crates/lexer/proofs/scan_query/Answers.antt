@@ -13,26 +13,26 @@ loop-at-init c = (omega arith, omega arith, refl, before_none)
 pub overflow_add-at : goal.overflow_add-at
 overflow_add-at c = 
     let gap_past : (let at = c.loop-at.at in let n = c.in-Gap.n in (at < at + n) × (at + n ≤ length c.args.query.now)) = let f = c.segment_at in
-        past_gap c.args.query.now c.loop-at.at c.loop-at-test.true f.result f.ensures.0 c.in-Gap.is in
+        past_gap c.args.query.now c.loop-at.at c.loop-at-test.true f.result f.ensures.value c.in-Gap.is in
     let w = gap_past in omega arith
 
 pub loop-at-smaller-in-Gap : goal.loop-at-smaller-in-Gap
 loop-at-smaller-in-Gap c = 
     let gap_past : (let at = c.loop-at.at in let n = c.in-Gap.n in (at < at + n) × (at + n ≤ length c.args.query.now)) = let f = c.segment_at in
-        past_gap c.args.query.now c.loop-at.at c.loop-at-test.true f.result f.ensures.0 c.in-Gap.is in
+        past_gap c.args.query.now c.loop-at.at c.loop-at-test.true f.result f.ensures.value c.in-Gap.is in
     let w = gap_past in omega arith
 
 pub loop-at-preserved-in-Gap : goal.loop-at-preserved-in-Gap
 loop-at-preserved-in-Gap c = 
     let gap_past : (let at = c.loop-at.at in let n = c.in-Gap.n in (at < at + n) × (at + n ≤ length c.args.query.now)) = let f = c.segment_at in
-        past_gap c.args.query.now c.loop-at.at c.loop-at-test.true f.result f.ensures.0 c.in-Gap.is in
+        past_gap c.args.query.now c.loop-at.at c.loop-at-test.true f.result f.ensures.value c.in-Gap.is in
     let l = c.loop-at in
     let f = c.segment_at in
     let w = gap_past in (
       w.1,
       omega arith,
       l.invariant.2,
-      step_gap c.args.query.now l.at c.loop-at-test.true f.result f.ensures.0 l.invariant.3 c.in-Gap.is,
+      step_gap c.args.query.now l.at c.loop-at-test.true f.result f.ensures.value l.invariant.3 c.in-Gap.is,
     )
 
 pub packed-requires : goal.packed-requires
@@ -42,19 +42,19 @@ packed-requires c = let f = subst Small c.in-Lexeme.is c.segment_at.ensures.smal
 pub overflow_add-at-in-Lexeme : goal.overflow_add-at-in-Lexeme
 overflow_add-at-in-Lexeme c = 
     let token_past : (let at = c.loop-at.at in let n = c.in-Lexeme.n in (at < at + n) × (at + n ≤ length c.args.query.now)) = let f = c.segment_at in
-        past_token c.args.query.now c.loop-at.at c.loop-at-test.true f.result f.ensures.0 c.in-Lexeme.is in
+        past_token c.args.query.now c.loop-at.at c.loop-at-test.true f.result f.ensures.value c.in-Lexeme.is in
     let w = token_past in omega arith
 
 pub loop-at-smaller : goal.loop-at-smaller
 loop-at-smaller c = 
     let token_past : (let at = c.loop-at.at in let n = c.in-Lexeme.n in (at < at + n) × (at + n ≤ length c.args.query.now)) = let f = c.segment_at in
-        past_token c.args.query.now c.loop-at.at c.loop-at-test.true f.result f.ensures.0 c.in-Lexeme.is in
+        past_token c.args.query.now c.loop-at.at c.loop-at-test.true f.result f.ensures.value c.in-Lexeme.is in
     let w = token_past in omega arith
 
 pub loop-at-preserved : goal.loop-at-preserved
 loop-at-preserved c = 
     let token_past : (let at = c.loop-at.at in let n = c.in-Lexeme.n in (at < at + n) × (at + n ≤ length c.args.query.now)) = let f = c.segment_at in
-        past_token c.args.query.now c.loop-at.at c.loop-at-test.true f.result f.ensures.0 c.in-Lexeme.is in
+        past_token c.args.query.now c.loop-at.at c.loop-at-test.true f.result f.ensures.value c.in-Lexeme.is in
     let l = c.loop-at in
     let f = c.segment_at in
     let p = c.put.ensures in
@@ -63,7 +63,7 @@ loop-at-preserved c =
       omega arith,
       rw p (simp length-set l.invariant.2),
       rw (p, c.packed.ensures, c.overflow-over.ensures)
-          (step_token c.args.query.now l.at c.loop-at-test.true f.result f.ensures.0 l.invariant.3 c.in-Lexeme.is f.ensures.1
+          (step_token c.args.query.now l.at c.loop-at-test.true f.result f.ensures.value l.invariant.3 c.in-Lexeme.is f.ensures.small
           (omega (arith, c.requires, l.invariant.2))),
     )
 
@@ -74,7 +74,7 @@ pub returns-in-Neither : goal.returns-in-Neither
 returns-in-Neither c = let a = c.args in
     let l = c.loop-at in
     let f = c.segment_at in
-    step_stop a.query.now l.at c.loop-at-test.true f.result f.ensures.0 l.invariant.3 c.in-Neither.is
+    step_stop a.query.now l.at c.loop-at-test.true f.result f.ensures.value l.invariant.3 c.in-Neither.is
 
 pub shape_of-words : goal.shape_of-words
 shape_of-words c = c.loop-at.invariant.2

@@ -10,11 +10,11 @@ use Rattle.lexer.proofs.word_at.Goals as goal
 pub returns-then-n-gt32 : goal.returns-then-n-gt32
 returns-then-n-gt32 c = let a = c.args in
     let e = c.run_end-end in
-    record { value = word_long (drop a.at a.text.now) (e.result - a.at) (omega (arith, e.ensures.0)) c.if-n-gt32.true; small = tt }
+    record { value = word_long (drop a.at a.text.now) (e.result - a.at) (omega (arith, e.ensures.value)) c.if-n-gt32.true; small = tt }
 
 pub returns-then-same : goal.returns-then-same
 returns-then-same c = let a = c.args in
-    let e = c.run_end-end in record { value = word_any (drop a.at a.text.now) (e.result - a.at) (omega (arith, e.ensures.0)) c.if-n-gt32.false (sym c.same.ensures ∙ c.if-same.true); small = any_packs }
+    let e = c.run_end-end in record { value = word_any (drop a.at a.text.now) (e.result - a.at) (omega (arith, e.ensures.value)) c.if-n-gt32.false (sym c.same.ensures ∙ c.if-same.true); small = any_packs }
 
 pub overflow_add-result : goal.overflow_add-result
 overflow_add-result c = let h = subst (λ (w : Word). index_of w < 26) c.in-Reserved.is c.reserved_word.ensures.index in
@@ -25,11 +25,11 @@ returns-in-Reserved c = let a = c.args in
     let e = c.run_end-end in
     let w = c.reserved_word in
     let k = c.k-1.given in
-    let h = subst (λ (w : Word). index_of w < 26) k.1 w.ensures.1.1 in record { value = word_reserved (drop a.at a.text.now) (e.result - a.at) (omega (arith, e.ensures.0)) c.if-n-gt32.false k.0.0 h
-          (sym c.same.ensures ∙ c.if-same.false) (λ i. w.ensures.1.0 i ∙ rw k.1); small = reserved_packs k.0.0 (e.result - a.at) h c.if-n-gt32.false }
+    let h = subst (λ (w : Word). index_of w < 26) k.1 w.ensures.index in record { value = word_reserved (drop a.at a.text.now) (e.result - a.at) (omega (arith, e.ensures.value)) c.if-n-gt32.false k.0.0 h
+          (sym c.same.ensures ∙ c.if-same.false) (λ i. w.ensures.terminal i ∙ rw k.1); small = reserved_packs k.0.0 (e.result - a.at) h c.if-n-gt32.false }
 
 pub returns-in-Identifier : goal.returns-in-Identifier
 returns-in-Identifier c = let a = c.args in
     let e = c.run_end-end in
-    let w = c.reserved_word in record { value = word_name (drop a.at a.text.now) (e.result - a.at) (omega (arith, e.ensures.0)) c.if-n-gt32.false
-          (sym c.same.ensures ∙ c.if-same.false) (λ i. w.ensures.1.0 i ∙ rw c.in-Identifier.is); small = name_packs (e.result - a.at) c.if-n-gt32.false }
+    let w = c.reserved_word in record { value = word_name (drop a.at a.text.now) (e.result - a.at) (omega (arith, e.ensures.value)) c.if-n-gt32.false
+          (sym c.same.ensures ∙ c.if-same.false) (λ i. w.ensures.terminal i ∙ rw c.in-Identifier.is); small = name_packs (e.result - a.at) c.if-n-gt32.false }

@@ -12,4 +12,4 @@ returns-then-x-eq255 c = subst (λ (x : Text). Put true c.args.out.now c.args.at
 pub returns : goal.returns
 returns c = let p = c.put_number in
     let a = c.args in
-    subst (λ (x : Text). Put true a.out.now a.at x p.result p.new.0) (byte_some a.x c.if-x-eq255.false) p.ensures
+    subst (λ (x : Text). Put true a.out.now a.at x p.result p.new.out) (byte_some a.x c.if-x-eq255.false) p.ensures

@@ -23,4 +23,4 @@ returns-in-30 c = (rw c.in-30.is (c.count.ensures ∙ rw c.word_before.ensures r
 
 pub returns-in_default : goal.returns-in_default
 unfolding count_field
-returns-in_default c = (rw (ne_eqb _ _ c.in_default.rest.0.0.0.1, ne_eqb _ _ c.in_default.rest.0.0.1, ne_eqb _ _ c.in_default.rest.0.1, ne_eqb _ _ c.in_default.rest.1) refl, omega arith)
+returns-in_default c = (rw (ne_eqb _ _ c.in_default.in_default-own.rest.0.0.0.1, ne_eqb _ _ c.in_default.in_default-own.rest.0.0.1, ne_eqb _ _ c.in_default.in_default-own.rest.0.1, ne_eqb _ _ c.in_default.in_default-own.rest.1) refl, omega arith)

@@ -21,4 +21,4 @@ returns-in-23 c = (rw c.in-23.is c.half_field.ensures.0, c.half_field.ensures.1)
 
 pub returns-in_default : goal.returns-in_default
 unfolding expression_field token_values
-returns-in_default c = (rw (ne_eqb _ _ c.in_default.rest.0.0.0.1, ne_eqb _ _ c.in_default.rest.0.0.1, ne_eqb _ _ c.in_default.rest.0.1, ne_eqb _ _ c.in_default.rest.1) c.quantity_field.ensures.0, c.quantity_field.ensures.1)
+returns-in_default c = (rw (ne_eqb _ _ c.in_default.in_default-own.rest.0.0.0.1, ne_eqb _ _ c.in_default.in_default-own.rest.0.0.1, ne_eqb _ _ c.in_default.in_default-own.rest.0.1, ne_eqb _ _ c.in_default.in_default-own.rest.1) c.quantity_field.ensures.0, c.quantity_field.ensures.1)

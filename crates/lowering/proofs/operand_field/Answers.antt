@@ -22,4 +22,4 @@ returns-in-44 c = (rw c.in-44.is (rw c.word_at.ensures refl), omega arith)
 
 pub returns-in_default : goal.returns-in_default
 unfolding operand_field
-returns-in_default c = (rw (ne_eqb _ _ c.in_default.rest.0.0.0.1, ne_eqb _ _ c.in_default.rest.0.0.1, ne_eqb _ _ c.in_default.rest.0.1, ne_eqb _ _ c.in_default.rest.1) c.expression_field.ensures.0, c.expression_field.ensures.1)
+returns-in_default c = (rw (ne_eqb _ _ c.in_default.in_default-own.rest.0.0.0.1, ne_eqb _ _ c.in_default.in_default-own.rest.0.0.1, ne_eqb _ _ c.in_default.in_default-own.rest.0.1, ne_eqb _ _ c.in_default.in_default-own.rest.1) c.expression_field.ensures.0, c.expression_field.ensures.1)

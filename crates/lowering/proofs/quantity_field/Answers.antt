@@ -22,4 +22,4 @@ returns-in-28 c = (rw c.in-28.is c.comparison_field-in-28.ensures.0, c.compariso
 
 pub returns-in_default : goal.returns-in_default
 unfolding quantity_field
-returns-in_default c = (rw (ne_eqb _ _ c.in_default.rest.0.0.0.1, ne_eqb _ _ c.in_default.rest.0.0.1, ne_eqb _ _ c.in_default.rest.0.1, ne_eqb _ _ c.in_default.rest.1) refl, omega arith)
+returns-in_default c = (rw (ne_eqb _ _ c.in_default.in_default-own.rest.0.0.0.1, ne_eqb _ _ c.in_default.in_default-own.rest.0.0.1, ne_eqb _ _ c.in_default.in_default-own.rest.0.1, ne_eqb _ _ c.in_default.in_default-own.rest.1) refl, omega arith)

@@ -29,4 +29,4 @@ returns-in-36 c = let a = c.args in
 
 pub returns-in_default : goal.returns-in_default
 returns-in_default c = let a = c.args in
-    record { by_index = (λ p used buffer. by_rest (actions a.words.now a.firsts.now a.u a.scr p) a.u a.words.now a.pc used a.store.now buffer a.sets.now a.cursors.now a.vars.now (omega arith) c.in_default.rest c.requires.2); counts_after = counts_rest _ _ _ _ _ _ _ _ (omega arith) c.in_default.rest c.requires.2 }
+    record { by_index = (λ p used buffer. by_rest (actions a.words.now a.firsts.now a.u a.scr p) a.u a.words.now a.pc used a.store.now buffer a.sets.now a.cursors.now a.vars.now (omega arith) c.in_default.in_default-own.rest c.requires.2); counts_after = counts_rest _ _ _ _ _ _ _ _ (omega arith) c.in_default.in_default-own.rest c.requires.2 }

@@ -33,5 +33,5 @@ returns-in-37 c = rw c.in-37.is refl
 
 pub returns-in_default : goal.returns-in_default
 unfolding ends
-returns-in_default c = let z = c.in_default.rest in
+returns-in_default c = let z = c.in_default.in_default-own.rest in
     simp (ne_eqb _ _ z.0.0.0.0.0.0.1, ne_eqb _ _ z.0.0.0.0.0.1, ne_eqb _ _ z.0.0.0.0.1, ne_eqb _ _ z.0.0.0.1, ne_eqb _ _ z.0.0.1, ne_eqb _ _ z.0.1, ne_eqb _ _ z.1)

@@ -17,10 +17,10 @@ pub comparison-a-requires : goal.comparison-a-requires
 comparison-a-requires c = let l = kind_within c.args.tokens.now (c.args.p + 2) (omega (arith, c.kind_at.ensures)) in simp length-set (omega arith)
 
 pub close_item-requires : goal.close_item-requires
-close_item-requires c = item_room ROWS c.comparison-a.ensures (omega arith) (omega arith) (omega arith) (omega arith) (omega (arith, c.comparison-a.auto.1.0, length-set c.args.words.now c.args.n c.leaf_at-w.result))
+close_item-requires c = item_room ROWS c.comparison-a.ensures (omega arith) (omega arith) (omega arith) (omega arith) (omega (arith, c.comparison-a.auto.words, length-set c.args.words.now c.args.n c.leaf_at-w.result))
 
 pub shape_of-words : goal.shape_of-words
-shape_of-words c = c.close_item.auto.0 ∙ c.comparison-a.auto.1.0 ∙ length-set c.args.words.now c.args.n c.leaf_at-w.result
+shape_of-words c = c.close_item.auto.words ∙ c.comparison-a.auto.words ∙ length-set c.args.words.now c.args.n c.leaf_at-w.result
 
 pub returns : goal.returns
 returns c = label_item _ _ _ _ _ (omega arith) c.requires.0 (λ e. c.if-w-eq0.false (c.leaf_at-w.ensures ∙ e)) (sym c.kind_at.ensures ∙ c.if-kind_at-ne5.false) c.leaf_at-w.ensures c.comparison-a.ensures c.close_item.ensures

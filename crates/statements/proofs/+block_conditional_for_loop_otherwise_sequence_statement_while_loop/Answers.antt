@@ -45,7 +45,7 @@ pub conditional-returns-in_default-c : goal.conditional-returns-in_default-c
 conditional-returns-in_default-c t c = else_refused c.requires.1.1.nest c.in-Read.is c.requires.0 c.comparison-a.ensures c.block-b.ensures c.in-Read-b.is c.otherwise-c.ensures c.in_default-c.is
 
 pub conditional-tested-requires : goal.conditional-tested-requires
-conditional-tested-requires t c = let o = paid_of c.comparison-a.ensures c.in-Read.is in let o' = block_span c.block-b.ensures c.in-Read-b.is in let o'' = else_span c.otherwise-c.ensures c.in-Read-c.is in let l = kind_within c.args.tokens.now c.args.p (omega (arith, c.requires.0)) in let i = c.requires.1.0.small c.args.p in omega (arith, c.requires.1.1.small, c.requires.1.1.room, c.requires.1.1.used, c.otherwise-c.auto.1.0, c.block-b.auto.1.0, c.comparison-a.auto.1.0)
+conditional-tested-requires t c = let o = paid_of c.comparison-a.ensures c.in-Read.is in let o' = block_span c.block-b.ensures c.in-Read-b.is in let o'' = else_span c.otherwise-c.ensures c.in-Read-c.is in let l = kind_within c.args.tokens.now c.args.p (omega (arith, c.requires.0)) in let i = c.requires.1.0.small c.args.p in omega (arith, c.requires.1.1.small, c.requires.1.1.room, c.requires.1.1.used, c.otherwise-c.auto.words, c.block-b.auto.words, c.comparison-a.auto.words)
 
 pub conditional-returns : goal.conditional-returns
 conditional-returns t c = if_ends c.requires.1.1.nest c.in-Read.is c.requires.0 c.comparison-a.ensures c.block-b.ensures c.in-Read-b.is c.otherwise-c.ensures c.in-Read-c.is c.tested.ensures
@@ -72,7 +72,7 @@ pub for_loop-returns-in_default-b : goal.for_loop-returns-in_default-b
 for_loop-returns-in_default-b t c = let u = heads c.heading-k.ensures c.if-k-lt3.false in block_refused (a_for _ _ _ c.requires.1.1.nest c.requires.0 u.name u.in') c.comparison-a.ensures c.in-Read.is c.block-b.ensures c.in_default-b.is
 
 pub for_loop-ranged-requires : goal.for_loop-ranged-requires
-for_loop-ranged-requires t c = let o = paid_of c.comparison-a.ensures c.in-Read.is in let o' = block_span c.block-b.ensures c.in-Read-b.is in let l = kind_within c.args.tokens.now c.args.p (omega (arith, c.requires.0)) in let i = c.requires.1.0.small c.args.p in omega (arith, c.block-b.auto.1.0, c.comparison-a.auto.1.0, c.heading-k.auto.1.0)
+for_loop-ranged-requires t c = let o = paid_of c.comparison-a.ensures c.in-Read.is in let o' = block_span c.block-b.ensures c.in-Read-b.is in let l = kind_within c.args.tokens.now c.args.p (omega (arith, c.requires.0)) in let i = c.requires.1.0.small c.args.p in omega (arith, c.block-b.auto.words, c.comparison-a.auto.words, c.heading-k.auto.words)
 
 pub for_loop-returns : goal.for_loop-returns
 for_loop-returns t c = for_ends c.requires.1.1.nest c.in-Read.is c.requires.0 (heads c.heading-k.ensures c.if-k-lt3.false) c.comparison-a.ensures c.block-b.ensures c.in-Read-b.is c.ranged.ensures
@@ -91,36 +91,36 @@ sequence-statement-a-requires t c = (omega arith, (c.requires.0, omega arith))
 
 pub sequence-shape_of-words-in_default : goal.sequence-shape_of-words-in_default
 sequence-shape_of-words-in_default t c = 
-    let sequence_sofar : IsSofar c.args.tokens.now c.args.p c.args.n c.args.d c.args.words.now c.loop-a.words c.loop-a.a = c.loop-a.invariant c.args.words.now (sequence_starts c.requires.1.nest c.requires.1.place c.statement-a.ensures c.statement-a.auto.1.0) in
+    let sequence_sofar : IsSofar c.args.tokens.now c.args.p c.args.n c.args.d c.args.words.now c.loop-a.words c.loop-a.a = c.loop-a.invariant c.args.words.now (sequence_starts c.requires.1.nest c.requires.1.place c.statement-a.ensures c.statement-a.auto.words) in
     (sequence_sofar).long
 
 pub sequence-returns-in_default : goal.sequence-returns-in_default
 sequence-returns-in_default t c = 
-    let sequence_sofar : IsSofar c.args.tokens.now c.args.p c.args.n c.args.d c.args.words.now c.loop-a.words c.loop-a.a = c.loop-a.invariant c.args.words.now (sequence_starts c.requires.1.nest c.requires.1.place c.statement-a.ensures c.statement-a.auto.1.0) in
+    let sequence_sofar : IsSofar c.args.tokens.now c.args.p c.args.n c.args.d c.args.words.now c.loop-a.words c.loop-a.a = c.loop-a.invariant c.args.words.now (sequence_starts c.requires.1.nest c.requires.1.place c.statement-a.ensures c.statement-a.auto.words) in
     let h = sequence_sofar in sequence_stops c.requires.1.nest h c.in_default.is
 
 pub sequence-shape_of-words-then-not-begins : goal.sequence-shape_of-words-then-not-begins
 sequence-shape_of-words-then-not-begins t c = 
-    let sequence_sofar : IsSofar c.args.tokens.now c.args.p c.args.n c.args.d c.args.words.now c.loop-a.words c.loop-a.a = c.loop-a.invariant c.args.words.now (sequence_starts c.requires.1.nest c.requires.1.place c.statement-a.ensures c.statement-a.auto.1.0) in
+    let sequence_sofar : IsSofar c.args.tokens.now c.args.p c.args.n c.args.d c.args.words.now c.loop-a.words c.loop-a.a = c.loop-a.invariant c.args.words.now (sequence_starts c.requires.1.nest c.requires.1.place c.statement-a.ensures c.statement-a.auto.words) in
     (sequence_sofar).long
 
 pub sequence-returns-then-not-begins : goal.sequence-returns-then-not-begins
 sequence-returns-then-not-begins t c = 
-    let sequence_sofar : IsSofar c.args.tokens.now c.args.p c.args.n c.args.d c.args.words.now c.loop-a.words c.loop-a.a = c.loop-a.invariant c.args.words.now (sequence_starts c.requires.1.nest c.requires.1.place c.statement-a.ensures c.statement-a.auto.1.0) in
+    let sequence_sofar : IsSofar c.args.tokens.now c.args.p c.args.n c.args.d c.args.words.now c.loop-a.words c.loop-a.a = c.loop-a.invariant c.args.words.now (sequence_starts c.requires.1.nest c.requires.1.place c.statement-a.ensures c.statement-a.auto.words) in
     let h = sequence_sofar in sequence_ends c.requires.1.nest h c.in-Read.is (begins_not c.begins.result c.if-not-begins.true-raw c.begins.ensures)
 
 pub sequence-statement-a-requires-in-loop-a : goal.sequence-statement-a-requires-in-loop-a
 sequence-statement-a-requires-in-loop-a t c = 
-    let sequence_sofar : IsSofar c.args.tokens.now c.args.p c.args.n c.args.d c.args.words.now c.loop-a.words c.loop-a.a = c.loop-a.invariant c.args.words.now (sequence_starts c.requires.1.nest c.requires.1.place c.statement-a.ensures c.statement-a.auto.1.0) in
+    let sequence_sofar : IsSofar c.args.tokens.now c.args.p c.args.n c.args.d c.args.words.now c.loop-a.words c.loop-a.a = c.loop-a.invariant c.args.words.now (sequence_starts c.requires.1.nest c.requires.1.place c.statement-a.ensures c.statement-a.auto.words) in
     let h = sequence_sofar in let o = sequence_span c.requires.1.nest h c.in-Read.is in (omega arith, (c.requires.0, omega (arith, h.long)))
 
 pub sequence-loop-a-smaller : goal.sequence-loop-a-smaller
 sequence-loop-a-smaller t c = 
-    let sequence_sofar : IsSofar c.args.tokens.now c.args.p c.args.n c.args.d c.args.words.now c.loop-a.words c.loop-a.a = c.loop-a.invariant c.args.words.now (sequence_starts c.requires.1.nest c.requires.1.place c.statement-a.ensures c.statement-a.auto.1.0) in
+    let sequence_sofar : IsSofar c.args.tokens.now c.args.p c.args.n c.args.d c.args.words.now c.loop-a.words c.loop-a.a = c.loop-a.invariant c.args.words.now (sequence_starts c.requires.1.nest c.requires.1.place c.statement-a.ensures c.statement-a.auto.words) in
     let h = sequence_sofar in let o = sequence_span c.requires.1.nest h c.in-Read.is in sequence_less c.requires.1.nest o.within c.in-Read.is c.statement-a-in-loop-a.ensures
 
 pub sequence-loop-a-preserved : goal.sequence-loop-a-preserved
-sequence-loop-a-preserved t c = λ A s. let h = c.loop-a.invariant A s in sequence_on c.requires.1.nest h c.in-Read.is (begins_so c.begins.result c.if-not-begins.false-raw c.begins.ensures) c.statement-a-in-loop-a.ensures (c.statement-a-in-loop-a.auto.1.0 ∙ h.long)
+sequence-loop-a-preserved t c = λ A s. let h = c.loop-a.invariant A s in sequence_on c.requires.1.nest h c.in-Read.is (begins_so c.begins.result c.if-not-begins.false-raw c.begins.ensures) c.statement-a-in-loop-a.ensures (c.statement-a-in-loop-a.auto.words ∙ h.long)
 
 pub statement-block-requires : goal.statement-block-requires
 statement-block-requires t c = (omega arith, c.requires)
@@ -144,7 +144,7 @@ pub statement-returns-in-2 : goal.statement-returns-in-2
 statement-returns-in-2 t c = nested (sym c.kind_at.ensures ∙ c.in-2.is) c.block.ensures
 
 pub statement-returns-in_default : goal.statement-returns-in_default
-statement-returns-in_default t c = no_statement (omega arith) (record { no_name = λ e. c.in_default.rest.1 (c.kind_at.ensures ∙ e); no-if = λ e. c.in_default.rest.0.0.0.1 (c.kind_at.ensures ∙ e); no-while = λ e. c.in_default.rest.0.1 (c.kind_at.ensures ∙ e); no-for = λ e. c.in_default.rest.0.0.0.0.1 (c.kind_at.ensures ∙ e); no-brace = λ e. c.in_default.rest.0.0.0.0.0.1 (c.kind_at.ensures ∙ e); no-print = λ e. c.in_default.rest.0.0.1 (c.kind_at.ensures ∙ e) })
+statement-returns-in_default t c = no_statement (omega arith) (record { no_name = λ e. c.in_default.in_default-own.rest.1 (c.kind_at.ensures ∙ e); no_if = λ e. c.in_default.in_default-own.rest.0.0.0.1 (c.kind_at.ensures ∙ e); no_while = λ e. c.in_default.in_default-own.rest.0.1 (c.kind_at.ensures ∙ e); no_for = λ e. c.in_default.in_default-own.rest.0.0.0.0.1 (c.kind_at.ensures ∙ e); no_brace = λ e. c.in_default.in_default-own.rest.0.0.0.0.0.1 (c.kind_at.ensures ∙ e); no_print = λ e. c.in_default.in_default-own.rest.0.0.1 (c.kind_at.ensures ∙ e) })
 
 pub while_loop-comparison-a-requires : goal.while_loop-comparison-a-requires
 while_loop-comparison-a-requires t c = let l = kind_within c.args.tokens.now c.args.p (omega (arith, c.requires.0)) in omega arith
@@ -162,7 +162,7 @@ pub while_loop-returns-in_default-b : goal.while_loop-returns-in_default-b
 while_loop-returns-in_default-b t c = block_refused (a_while _ _ _ c.requires.1.1.nest c.requires.0) c.comparison-a.ensures c.in-Read.is c.block-b.ensures c.in_default-b.is
 
 pub while_loop-repeated-requires : goal.while_loop-repeated-requires
-while_loop-repeated-requires t c = let o = paid_of c.comparison-a.ensures c.in-Read.is in let o' = block_span c.block-b.ensures c.in-Read-b.is in let l = kind_within c.args.tokens.now c.args.p (omega (arith, c.requires.0)) in let i = c.requires.1.0.small c.args.p in omega (arith, c.block-b.auto.1.0, c.comparison-a.auto.1.0)
+while_loop-repeated-requires t c = let o = paid_of c.comparison-a.ensures c.in-Read.is in let o' = block_span c.block-b.ensures c.in-Read-b.is in let l = kind_within c.args.tokens.now c.args.p (omega (arith, c.requires.0)) in let i = c.requires.1.0.small c.args.p in omega (arith, c.block-b.auto.words, c.comparison-a.auto.words)
 
 pub while_loop-returns : goal.while_loop-returns
 while_loop-returns t c = while_ends c.requires.1.1.nest c.in-Read.is c.requires.0 c.comparison-a.ensures c.block-b.ensures c.in-Read-b.is c.repeated.ensures

@@ -21,4 +21,4 @@ pub returns-in-47 : goal.returns-in-47
 returns-in-47 c = a_name (sym c.kind_at.ensures ∙ c.in-47.is)
 
 pub returns-in_default : goal.returns-in_default
-returns-in_default c = record { no_name = λ e. c.in_default.rest.1 (c.kind_at.ensures ∙ e); no-if = λ e. c.in_default.rest.0.0.0.1 (c.kind_at.ensures ∙ e); no-while = λ e. c.in_default.rest.0.1 (c.kind_at.ensures ∙ e); no-for = λ e. c.in_default.rest.0.0.0.0.1 (c.kind_at.ensures ∙ e); no-brace = λ e. c.in_default.rest.0.0.0.0.0.1 (c.kind_at.ensures ∙ e); no-print = λ e. c.in_default.rest.0.0.1 (c.kind_at.ensures ∙ e) }
+returns-in_default c = record { no_name = λ e. c.in_default.in_default-own.rest.1 (c.kind_at.ensures ∙ e); no_if = λ e. c.in_default.in_default-own.rest.0.0.0.1 (c.kind_at.ensures ∙ e); no_while = λ e. c.in_default.in_default-own.rest.0.1 (c.kind_at.ensures ∙ e); no_for = λ e. c.in_default.in_default-own.rest.0.0.0.0.1 (c.kind_at.ensures ∙ e); no_brace = λ e. c.in_default.in_default-own.rest.0.0.0.0.0.1 (c.kind_at.ensures ∙ e); no_print = λ e. c.in_default.in_default-own.rest.0.0.1 (c.kind_at.ensures ∙ e) }

@@ -12,4 +12,4 @@ pub returns-in-54 : goal.returns-in-54
 returns-in-54 c = a_large_literal (sym c.kind_at.ensures ∙ c.in-54.is)
 
 pub returns-in_default : goal.returns-in_default
-returns-in_default c = record { no-count = λ e. c.in_default.rest.0.0.1 (c.kind_at.ensures ∙ e); no-literal = λ e. c.in_default.rest.0.1 (c.kind_at.ensures ∙ e); no-large-literal = λ e. c.in_default.rest.1 (c.kind_at.ensures ∙ e) }
+returns-in_default c = record { no_count = λ e. c.in_default.in_default-own.rest.0.0.1 (c.kind_at.ensures ∙ e); no_literal = λ e. c.in_default.in_default-own.rest.0.1 (c.kind_at.ensures ∙ e); no_large_literal = λ e. c.in_default.in_default-own.rest.1 (c.kind_at.ensures ∙ e) }

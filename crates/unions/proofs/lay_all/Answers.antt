@@ -34,11 +34,11 @@ loop-i-preserved c = let a = c.args in
     let T = texts a.facts.now a.query.now a.places.now in
     let x = number_lines T name k (get_or a.some.now L.i 0 % 4) a.numbers.now in (
       omega arith,
-      omega (arith, c.requires.2, L.invariant.1, l.ensures.1),
-      laid_length {x = x} l.ensures.0 ∙ L.invariant.2,
+      omega (arith, c.requires.2, L.invariant.1, l.ensures.within),
+      laid_length {x = x} l.ensures.value ∙ L.invariant.2,
       λ r o z. L.invariant.3 r o
           (subst (λ (t : List ℕ). Laid a.write L.out L.p t r o)
-          (relations_next T a.relations.now a.numbers.now a.some.now L.i c.loop-i-test.true name k c.text_of-name.ensures c.index_of-k.ensures.value) (laid_then {x = x} l.ensures.0 z)),
+          (relations_next T a.relations.now a.numbers.now a.some.now L.i c.loop-i-test.true name k c.text_of-name.ensures c.index_of-k.ensures.value) (laid_then {x = x} l.ensures.value z)),
     )
 
 pub shape_of-out : goal.shape_of-out

@@ -24,10 +24,10 @@ loop-i-preserved c = let a = c.args in
     let T = texts a.facts.now a.query.now a.places.now in
     let x = number_lines T a.name.now a.k a.n (get_or a.numbers.now L.i 0 ∷ []) in (
       omega arith,
-      omega (arith, L.invariant.1, l.ensures.1),
-      laid_length {x = x} l.ensures.0 ∙ L.invariant.2,
+      omega (arith, L.invariant.1, l.ensures.within),
+      laid_length {x = x} l.ensures.value ∙ L.invariant.2,
       λ r o z. L.invariant.3 r o
-          (subst (λ (t : List ℕ). Laid a.write L.out L.p t r o) (numbers_next T a.name.now a.k a.n a.numbers.now L.i c.loop-i-test.true) (laid_then {x = x} l.ensures.0 z)),
+          (subst (λ (t : List ℕ). Laid a.write L.out L.p t r o) (numbers_next T a.name.now a.k a.n a.numbers.now L.i c.loop-i-test.true) (laid_then {x = x} l.ensures.value z)),
     )
 
 pub shape_of-out : goal.shape_of-out

@@ -27,7 +27,7 @@ pub loop-i-preserved : goal.loop-i-preserved
 loop-i-preserved c = let a = c.args in
     let L = c.loop-i in
     let f = c.enter_part in
-    let g = sort_next a.facts.now a.query.now a.relations.now L.words L.n L.i L.invariant.1 c.loop-i-test.true _ f.ensures.1 _ _ c.in-Count.is f.ensures.0 in
+    let g = sort_next a.facts.now a.query.now a.relations.now L.words L.n L.i L.invariant.1 c.loop-i-test.true _ f.ensures.words _ _ c.in-Count.is f.ensures.value in
     (g.1 ∙ L.invariant.0, g.0)
 
 pub shape_of-words : goal.shape_of-words

@@ -18,9 +18,9 @@ pub write_some-requires : goal.write_some-requires
 write_some-requires c = let a = c.args in
     let f = c.sort_names-m in (
       c.requires.1,
-      omega (arith, c.requires.0, f.ensures.1, length-take f.result f.new.1.1.1.0, min-le_left f.result (length f.new.1.1.1.0)),
+      omega (arith, c.requires.0, f.ensures.within, length-take f.result f.new.1.1.1.0, min-le_left f.result (length f.new.1.1.1.0)),
       c.requires.2,
-      subst (AllNumbered a.facts.now a.query.now a.relations.now (length a.places.now) a.numbers.now) {x = sorted a.facts.now a.query.now a.relations.now} (sym f.ensures.0) c.requires.3,
+      subst (AllNumbered a.facts.now a.query.now a.relations.now (length a.places.now) a.numbers.now) {x = sorted a.facts.now a.query.now a.relations.now} (sym f.ensures.value) c.requires.3,
     )
 
 pub returns : goal.returns
