@@ -65,9 +65,8 @@ returns-in-Refused c =
         subst (λ (r : LineRead). role_of (take (a.e - a.a) (drop a.a a.facts.now)) a.a r ≡ role (line_of a.facts.now a.a a.e)) told (c.read_line.ensures.value a.a) in
     let within : (r : LineRead) → c.read_line.result ≡ r → ReadWithin (length (take (c.args.e - c.args.a) (drop c.args.a c.args.facts.now))) r = λ r told. let a = c.args in
         subst (ReadWithin (length (take (a.e - a.a) (drop a.a a.facts.now)))) told c.read_line.ensures.within in
-    let f = c.f-1 in
     let with_fact = c.with_fact in
-    taken_refused c.args.facts.now c.args.query.now c.args.a c.args.e c.requires.2 c.requires.3 f.given.0.0 (within _ f.given.1) (role_is _ f.given.1) c.args.relations.now with_fact.new.hints c.args.universe.now with_fact.new.1.1.1.0 c.args.c c.in-Refused.q (subst (FactTaken c.args.facts.now c.args.query.now c.args.a f.given.0.0 c.args.relations.now with_fact.new.hints c.args.universe.now with_fact.new.1.1.1.0 c.args.c) c.in-Refused.is with_fact.ensures)
+    taken_refused c.args.facts.now c.args.query.now c.args.a c.args.e c.requires.2 c.requires.3 c.in-Holds.f (within _ c.in-Holds.is) (role_is _ c.in-Holds.is) c.args.relations.now with_fact.new.relations c.args.universe.now with_fact.new.universe c.args.c c.in-Refused.q (subst (FactTaken c.args.facts.now c.args.query.now c.args.a c.in-Holds.f c.args.relations.now with_fact.new.relations c.args.universe.now with_fact.new.universe c.args.c) c.in-Refused.is with_fact.ensures)
 
 pub returns-in-Fits : goal.returns-in-Fits
 returns-in-Fits c = 
@@ -75,6 +74,5 @@ returns-in-Fits c =
         subst (λ (r : LineRead). role_of (take (a.e - a.a) (drop a.a a.facts.now)) a.a r ≡ role (line_of a.facts.now a.a a.e)) told (c.read_line.ensures.value a.a) in
     let within : (r : LineRead) → c.read_line.result ≡ r → ReadWithin (length (take (c.args.e - c.args.a) (drop c.args.a c.args.facts.now))) r = λ r told. let a = c.args in
         subst (ReadWithin (length (take (a.e - a.a) (drop a.a a.facts.now)))) told c.read_line.ensures.within in
-    let f = c.f-1 in
     let with_fact = c.with_fact in
-    taken_fact c.args.facts.now c.args.query.now c.args.a c.args.e c.requires.2 c.requires.3 f.given.0.0 (within _ f.given.1) (role_is _ f.given.1) c.args.relations.now with_fact.new.hints c.args.universe.now with_fact.new.1.1.1.0 c.args.c c.in-Fits.d (subst (FactTaken c.args.facts.now c.args.query.now c.args.a f.given.0.0 c.args.relations.now with_fact.new.hints c.args.universe.now with_fact.new.1.1.1.0 c.args.c) c.in-Fits.is with_fact.ensures)
+    taken_fact c.args.facts.now c.args.query.now c.args.a c.args.e c.requires.2 c.requires.3 c.in-Holds.f (within _ c.in-Holds.is) (role_is _ c.in-Holds.is) c.args.relations.now with_fact.new.relations c.args.universe.now with_fact.new.universe c.args.c c.in-Fits.d (subst (FactTaken c.args.facts.now c.args.query.now c.args.a c.in-Holds.f c.args.relations.now with_fact.new.relations c.args.universe.now with_fact.new.universe c.args.c) c.in-Fits.is with_fact.ensures)
