@@ -182,7 +182,7 @@ pub negation-negation-a-requires : goal.negation-negation-a-requires
 negation-negation-a-requires t c = let l = kind_within c.args.tokens.now c.args.p (omega (arith, c.kind_at.ensures, c.if-kind_at-ne11.false)) in omega arith
 
 pub negation-wrap-requires : goal.negation-wrap-requires
-negation-wrap-requires t c = let l = kind_within c.args.tokens.now c.args.p (omega (arith, c.kind_at.ensures, c.if-kind_at-ne11.false)) in wrap_room c.args.tokens.now (c.args.p + 1) c.args.n (length c.negation-a.new.1.0) c.negation-a.result 14 c.negation-a.ensures.bounds (omega arith) (omega arith) (omega arith) (omega arith)
+negation-wrap-requires t c = let l = kind_within c.args.tokens.now c.args.p (omega (arith, c.kind_at.ensures, c.if-kind_at-ne11.false)) in wrap_room c.args.tokens.now (c.args.p + 1) c.args.n (length c.negation-a.new.words) c.negation-a.result 14 c.negation-a.ensures.bounds (omega arith) (omega arith) (omega arith) (omega arith)
 
 pub negation-returns : goal.negation-returns
 negation-returns t c = negation_wraps (kind_within c.args.tokens.now c.args.p (omega (arith, c.kind_at.ensures, c.if-kind_at-ne11.false))) c.if-d-ge32.false (sym c.kind_at.ensures ∙ c.if-kind_at-ne11.false) c.negation-a.ensures c.wrap.ensures
