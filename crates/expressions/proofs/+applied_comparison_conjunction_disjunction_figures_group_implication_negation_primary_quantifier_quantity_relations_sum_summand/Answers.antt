@@ -8,6 +8,7 @@ use Rattle.expressions.proofs.OperatorLaws.{paid_of, tail_stops, comparison_tail
 use Rattle.expressions.proofs.QuantityLaws.{sum_chain, chain_ninth, sum_on, sum_paid, sum_room, quantity_stops, quantity_ends, quantity_joins, figures_stop, figures_alone, figures_join}
 use Rattle.terms.proofs.TokenLaws.{kind_within}
 use Rattle.expressions.proofs.+applied_comparison_conjunction_disjunction_figures_group_implication_negation_primary_quantifier_quantity_relations_sum_summand.Goals as goal
+use Rattle.expressions.proofs.+applied_comparison_conjunction_disjunction_figures_group_implication_negation_primary_quantifier_quantity_relations_sum_summand.Goals.{primary-in_default-via-then-this-lt35, primary-in_default-via-else-this-lt35+else-this-lt37}
 
 pub applied-returns-then-d-ge32 : goal.applied-returns-then-d-ge32
 applied-returns-then-d-ge32 t c = applied_deep _ _ _ _ _ _ c.requires.0 c.if-d-ge32.true
@@ -170,7 +171,7 @@ pub implication-returns-in-13 : goal.implication-returns-in-13
 implication-returns-in-13 t c = iff_joins c.in-Read.is c.disjunction-a.ensures (omega arith) (sym c.kind_at.ensures ∙ c.in-13.is) c.disjunction-b-in-13.ensures c.join-in-13.ensures
 
 pub implication-returns-in_default-kind_at : goal.implication-returns-in_default-kind_at
-implication-returns-in_default-kind_at t c = no_arrow_ends c.in-Read.is c.disjunction-a.ensures (λ e. c.in_default-kind_at.rest.0.1 (c.kind_at.ensures ∙ e)) (λ e. c.in_default-kind_at.rest.1 (c.kind_at.ensures ∙ e))
+implication-returns-in_default-kind_at t c = no_arrow_ends c.in-Read.is c.disjunction-a.ensures (λ e. c.in_default-kind_at.in_default-kind_at-own.rest.0.1 (c.kind_at.ensures ∙ e)) (λ e. c.in_default-kind_at.in_default-kind_at-own.rest.1 (c.kind_at.ensures ∙ e))
 
 pub negation-returns-then-kind_at-ne11 : goal.negation-returns-then-kind_at-ne11
 negation-returns-then-kind_at-ne11 t c = negation_plain (λ e. c.if-kind_at-ne11.true (c.kind_at.ensures ∙ e)) c.primary.ensures
@@ -197,10 +198,11 @@ pub primary-quantifier-requires-in-22 : goal.primary-quantifier-requires-in-22
 primary-quantifier-requires-in-22 t c = (omega arith, (fa_here (sym c.kind_at.ensures ∙ c.in-22.is), omega arith))
 
 pub primary-applied-requires : goal.primary-applied-requires
-primary-applied-requires t c = (omega arith, (closure_here _ _ c.kind_at.ensures c.if-this-lt35.false c.if-this-lt37.true, omega arith))
+primary-applied-requires t c = (omega arith, (closure_here _ _ c.kind_at.ensures (omega arith) (omega arith), omega arith))
 
 pub primary-atom-requires : goal.primary-atom-requires
-primary-atom-requires t c = (plain_here _ _ c.kind_at.ensures c.in_default-1.rest.0.0.1 c.in_default-1.rest.0.1 c.in_default-1.rest.1 (⊎_elim (λ w. inl w.taken) (λ w. inr w.1.left) c.in_default.branch), omega arith)
+primary-atom-requires t c = (plain_here _ _ c.kind_at.ensures (λ e. omega arith) (λ e. omega arith) (λ e. omega arith)
+    (elim c.in_default.branch [ primary-in_default-via-then-this-lt35 w ↦ inl (omega arith) | primary-in_default-via-else-this-lt35+else-this-lt37 w ↦ inr (omega arith) ]), omega arith)
 
 pub primary-returns-in_default : goal.primary-returns-in_default
 primary-returns-in_default t c = c.atom.ensures _ (omega arith)
