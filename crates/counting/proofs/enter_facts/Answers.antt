@@ -42,11 +42,11 @@ fact_number-v-requires c =
 pub enter-count-requires : goal.enter-count-requires
 enter-count-requires c = 
     let next_is : NextIs c.args.facts.now c.loop-a.at (Fact c.in-Fact.a c.in-Fact.f c.in-Fact.next) = subst (NextIs c.args.facts.now c.loop-a.at) c.in-Fact.is c.next_fact.ensures in
-    let few_more : c.loop-a.count < c.args.n + 16384 = let h = next_is c in
+    let few_more : c.loop-a.count < c.args.n + 16384 = let h = next_is in
         let L = c.loop-a in
         let p = c.requires in
         omega (arith, h.1, h.3, p.0, L.invariant.2) in
-    let room : c.loop-a.count < length c.loop-a.words = omega (arith, few_more c, c.requires.3, c.loop-a.invariant.0) in
+    let room : c.loop-a.count < length c.loop-a.words = omega (arith, few_more, c.requires.3, c.loop-a.invariant.0) in
     (room, c.loop-a.invariant.3)
 
 pub loop-a-smaller : goal.loop-a-smaller
@@ -58,11 +58,11 @@ loop-a-smaller c =
 pub loop-a-preserved : goal.loop-a-preserved
 loop-a-preserved c = 
     let next_is : NextIs c.args.facts.now c.loop-a.at (Fact c.in-Fact.a c.in-Fact.f c.in-Fact.next) = subst (NextIs c.args.facts.now c.loop-a.at) c.in-Fact.is c.next_fact.ensures in
-    let few_more : c.loop-a.count < c.args.n + 16384 = let h = next_is c in
+    let few_more : c.loop-a.count < c.args.n + 16384 = let h = next_is in
         let L = c.loop-a in
         let p = c.requires in
         omega (arith, h.1, h.3, p.0, L.invariant.2) in
-    let room : c.loop-a.count < length c.loop-a.words = omega (arith, few_more c, c.requires.3, c.loop-a.invariant.0) in
+    let room : c.loop-a.count < length c.loop-a.words = omega (arith, few_more, c.requires.3, c.loop-a.invariant.0) in
     let L = c.loop-a in
     let h = next_is in
     let v = c.fact_number-v.result in
