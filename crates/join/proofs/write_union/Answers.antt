@@ -25,9 +25,9 @@ pub slice_bounds-write_lines-end : goal.slice_bounds-write_lines-end
 slice_bounds-write_lines-end c = sym (length-take-le _ _ (omega (arith, c.enter_both-n.ensures.within)))
 
 pub write_lines-requires : goal.write_lines-requires
-write_lines-requires c = 
+write_lines-requires c =
     let set_is : take c.enter_both-n.result c.enter_both-n.new.words ≡ number_set (as_accepted (union c.args.first.now c.args.second.now c.args.relations.now c.args.universe.now)) (all_facts c.args.first.now ++ all_facts c.args.second.now) = let a = c.args in
-        c.enter_both-n.ensures.value (as_accepted (union a.first.now a.second.now a.relations.now a.universe.now)) (stated a.first.now a.second.now a.relations.now a.universe.now c.requires) (λ g i. i) in
+    c.enter_both-n.ensures.value (as_accepted (union a.first.now a.second.now a.relations.now a.universe.now)) (stated a.first.now a.second.now a.relations.now a.universe.now c.requires) (λ g i. i) in
     let a = c.args in
     let e = c.enter_both-n in
     let r = e.ensures.lists.0 in
@@ -35,9 +35,9 @@ write_lines-requires c =
     (omega (arith, ap length r, few_relations a.first.now a.second.now a.relations.now a.universe.now c.requires), omega (arith, ap length u, few_elements a.first.now a.second.now a.relations.now a.universe.now c.requires), subst (λ (k : ℕ). k ≤ 32768) (sym (length-take e.result e.new.words)) (le_trans (min-le_left e.result _) e.ensures.within), numbered_there a.first.now a.second.now a.relations.now a.universe.now c.requires _ _ _ r u (set_is))
 
 pub returns : goal.returns
-returns c = 
+returns c =
     let set_is : take c.enter_both-n.result c.enter_both-n.new.words ≡ number_set (as_accepted (union c.args.first.now c.args.second.now c.args.relations.now c.args.universe.now)) (all_facts c.args.first.now ++ all_facts c.args.second.now) = let a = c.args in
-        c.enter_both-n.ensures.value (as_accepted (union a.first.now a.second.now a.relations.now a.universe.now)) (stated a.first.now a.second.now a.relations.now a.universe.now c.requires) (λ g i. i) in
+    c.enter_both-n.ensures.value (as_accepted (union a.first.now a.second.now a.relations.now a.universe.now)) (stated a.first.now a.second.now a.relations.now a.universe.now c.requires) (λ g i. i) in
     let a = c.args in
     let e = c.enter_both-n in
     let l = c.write_lines in

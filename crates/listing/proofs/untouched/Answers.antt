@@ -12,8 +12,9 @@ pub loop-i-preserved : goal.loop-i-preserved
 loop-i-preserved c = let l = c.args.buffer.now in
     let i = c.loop-i.i in
     elim c.if-buffer-i.branch [
-      then-buffer-i w ↦ (omega (arith, counted_one l i (omega arith) w.if-buffer-i.true), omega arith, omega arith)
-    | else-buffer-i w ↦ (omega (arith, counted_other l i (omega arith) w.if-buffer-i.false), omega arith, omega arith) ]
+      | then-buffer-i w ↦ (omega (arith, counted_one l i (omega arith) w.if-buffer-i.true), omega arith, omega arith)
+      | else-buffer-i w ↦ (omega (arith, counted_other l i (omega arith) w.if-buffer-i.false), omega arith, omega arith)
+    ]
 
 pub returns : goal.returns
 returns c = let L = c.loop-i in L.invariant.0 ∙ counted_all c.args.buffer.now L.i (omega arith)

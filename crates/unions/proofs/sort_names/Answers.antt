@@ -32,7 +32,7 @@ pub shape_of-words : goal.shape_of-words
 shape_of-words c = c.loop-i.invariant.0
 
 pub returns : goal.returns
-returns c = 
+returns c =
     let h = let a = c.args in
     let L = c.loop-i in
     sort_all a.facts.now a.query.now a.relations.now L.words L.n L.i L.invariant.1 c.loop-i-test.false in
