@@ -1,6 +1,6 @@
 -- The rows of a name's pairs, filled fact by fact.
-use Rattle.std.specs.Prelude.{ℕ, ◌&&◌, List, [], ◌∷◌, map, ltb, eqb, length, get_or, set}
-use Rattle.definition.specs.Text.{if◌then◌else◌, Text, same}
+use Rattle.std.specs.Prelude.{ℕ, ◌&&◌, List, [], ◌∷◌, map, ltb, eqb, length, get_or, set, if◌then◌else◌}
+use Rattle.definition.specs.Text.{Text, same}
 use Rattle.definition.specs.Facts.{Fact, Element}
 use Rattle.bits.specs.Bits.{with_bit}
 use Rattle.parts.specs.Entries.{position}

@@ -1,6 +1,6 @@
 -- The lowered words of one statement, from the place s up to its own word at k, inside the blocks of open FORs.
-use Rattle.std.specs.Prelude.{ℕ, ◌+◌, ◌-◌, ◌%◌, ◌<◌, ◌≤◌, ◌≡◌, Bool, true, false, List, [], ◌∷◌, T, length, get_or, take}
-use Rattle.definition.specs.Text.{if◌then◌else◌, Text, same, member}
+use Rattle.std.specs.Prelude.{ℕ, ◌+◌, ◌-◌, ◌%◌, ◌<◌, ◌≤◌, ◌≡◌, Bool, true, false, List, [], ◌∷◌, T, length, get_or, take, if◌then◌else◌}
+use Rattle.definition.specs.Text.{Text, same, member}
 use Rattle.definition.specs.Token.{Token}
 use Rattle.definition.specs.Syntax.{Term, Expression, Item}
 use Rattle.definition.specs.Names.{attributes, free}

@@ -1,4 +1,5 @@
 -- Lists of texts in which none stands twice: they are no longer than any list that holds their texts.
+use Rattle.std.specs.Prelude.{if◌then◌else◌}
 use mathlib.Core.Path.{◌≡◌, refl, sym, ap, subst, ◌∙◌}
 use mathlib.Core.Logic.{◌⊎◌, inl, inr}
 use mathlib.Core.Bool.{Bool, true, false, ◌||◌, cond}
@@ -7,7 +8,7 @@ use Prim.Native.Nat.{suc, ◌≤◌}
 use native.Mathlib.Omega.{arith}
 use lib.Dec.{T, not_T}
 use lib.ListN.{length}
-use Rattle.definition.specs.Text.{if◌then◌else◌, Text, same, earlier, member, some_of}
+use Rattle.definition.specs.Text.{Text, same, earlier, member, some_of}
 use Rattle.definition.specs.Facts.{Ascending}
 use Rattle.definition.proofs.BoolLaws.{or_cases, or_left, or_right, is_true, is_false, or_eq_false, apart}
 use Rattle.definition.proofs.ListLaws.{some_append, Every, every_none, every_one}

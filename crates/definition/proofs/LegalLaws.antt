@@ -1,4 +1,5 @@
 -- Row 2, line by line: it is met exactly where some line that is read, without the byte 13 of its end, holds an illegal byte.
+use Rattle.std.specs.Prelude.{if◌then◌else◌}
 use mathlib.Core.Path.{◌≡◌, refl, sym, ap, ap₂, ◌∙◌}
 use mathlib.Core.Bool.{Bool, true, false, ◌&&◌, ◌||◌, not, cond, and-false}
 use mathlib.Core.List.{List, [], ◌∷◌, map}
@@ -7,7 +8,7 @@ use native.Mathlib.Omega.{arith}
 use lib.Dec.{ltb, eqb, eqb→eq, leb-suc-suc}
 use lib.ListN.{length, take}
 use borrow.Author.Tests.{le-ltb, lt-ltb}
-use Rattle.definition.specs.Text.{if◌then◌else◌, Text, ascii, span, starts, all_of, is_legal}
+use Rattle.definition.specs.Text.{Text, ascii, span, starts, all_of, is_legal}
 use Rattle.definition.specs.Facts.{cut, onto, without_return, bytes_read, ends_line, legal_at, legal_bytes}
 use Rattle.definition.proofs.TextLaws.{no_end, cut_line}
 

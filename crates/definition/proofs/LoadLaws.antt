@@ -1,4 +1,5 @@
 -- What the facts say is what is loaded: a relation has a tuple of texts just where some fact states it.
+use Rattle.std.specs.Prelude.{if◌then◌else◌}
 use mathlib.Core.Path.{◌≡◌, refl, sym, ap, ap₂, subst, ◌∙◌}
 use mathlib.Core.Logic.{◌⊎◌, inl, inr}
 use mathlib.Core.Bool.{Bool, true, false, ◌&&◌, cond}
@@ -7,7 +8,7 @@ use Prim.Native.Nat.{ℕ, zero, suc, ◌+◌, ◌≤◌, ◌<◌}
 use native.Mathlib.Omega.{arith}
 use lib.Dec.{T}
 use lib.ListN.{length, get_or, length-map}
-use Rattle.definition.specs.Text.{if◌then◌else◌, Text, same, member, some_of, keep, from}
+use Rattle.definition.specs.Text.{Text, same, member, some_of, keep, from}
 use Rattle.definition.specs.Limits.{Limits}
 use Rattle.definition.specs.Answer.{ok}
 use Rattle.definition.specs.Facts.{Element, Fact, Relation, arities}

@@ -1,5 +1,6 @@
 -- Facts saved with bytes 13 and 10 at the ends of their lines, or with byte 10 alone: the lines are the same without those bytes 13, so the
 -- two texts load to the same tables and have the same run, or are refused by one row.
+use Rattle.std.specs.Prelude.{if◌then◌else◌}
 use mathlib.Core.Path.{◌≡◌, refl, sym, ap, ◌∙◌}
 use mathlib.Core.Bool.{Bool, true, false, ◌&&◌, not, cond}
 use mathlib.Core.List.{List, [], ◌∷◌, ◌++◌, map}
@@ -8,7 +9,7 @@ use native.Mathlib.Omega.{arith}
 use lib.Dec.{eqb, eqb→eq}
 use lib.ListN.{length}
 use borrow.Author.Tests.{le-ltb}
-use Rattle.definition.specs.Text.{if◌then◌else◌, Text, ascii, starts, all_of, gather}
+use Rattle.definition.specs.Text.{Text, ascii, starts, all_of, gather}
 use Rattle.definition.specs.Limits.{Limits, FACT_BYTES}
 use Rattle.definition.specs.Answer.{Answer, ok, refused}
 use Rattle.definition.specs.Facts.{Line, cut, onto, without_return, lines, fact_lines, legal_bytes, read_facts}

@@ -1,6 +1,6 @@
 -- Numbers and ratios as they are printed.
-use Rattle.std.specs.Prelude.{[], ◌∷◌, ◌++◌, ℕ, zero, suc, ◌+◌, ◌/◌, ◌%◌, ltb, eqb}
-use Rattle.definition.specs.Text.{if◌then◌else◌, Text, ascii}
+use Rattle.std.specs.Prelude.{[], ◌∷◌, ◌++◌, ℕ, zero, suc, ◌+◌, ◌/◌, ◌%◌, ltb, eqb, if◌then◌else◌}
+use Rattle.definition.specs.Text.{Text, ascii}
 
 -- a number of at most k digits in decimal
 unfoldable pub digits : ℕ → ℕ → Text

@@ -1,6 +1,6 @@
 -- Joining two fact texts: "Add a call that takes two fact texts and writes one".
-use Rattle.std.specs.Prelude.{Bool, false, ◌&&◌, ◌||◌, not, List, [], ◌∷◌, map, ℕ, ltb, eqb, length}
-use Rattle.definition.specs.Text.{if◌then◌else◌, Text, same, earlier, some_of, keep, gather}
+use Rattle.std.specs.Prelude.{Bool, false, ◌&&◌, ◌||◌, not, List, [], ◌∷◌, map, ℕ, ltb, eqb, length, if◌then◌else◌}
+use Rattle.definition.specs.Text.{Text, same, earlier, some_of, keep, gather}
 use Rattle.definition.specs.Limits.{Limits, FACT_BYTES}
 use Rattle.definition.specs.Answer.{Answer, ok, refused, ◌>>=◌, ◌>>◌, refuse_if}
 use Rattle.definition.specs.Facts.{Line, Fact, Relation, Facts, cut, fact_lines, skipped, fact, with_fact, bytes_read, legal_bytes, read_facts}

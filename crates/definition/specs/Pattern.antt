@@ -1,7 +1,7 @@
 -- Patterns: what strings a pattern describes and which elements match it, how it is spelled, and the two as functions (row 18).
-use Rattle.std.specs.Prelude.{◌≡◌, Bool, true, false, ◌&&◌, ◌||◌, not, List, [], ◌∷◌, ◌++◌, ℕ, zero, suc, ◌+◌, ◌-◌, ◌*◌, T, leb, eqb, length, get_or, drop}
+use Rattle.std.specs.Prelude.{◌≡◌, Bool, true, false, ◌&&◌, ◌||◌, not, List, [], ◌∷◌, ◌++◌, ℕ, zero, suc, ◌+◌, ◌-◌, ◌*◌, T, leb, eqb, length, get_or, drop, if◌then◌else◌}
 use Rattle.std.proofs.Math.Option.{Option, some, none}
-use Rattle.definition.specs.Text.{if◌then◌else◌, Text, ascii, some_of, below, starts, between}
+use Rattle.definition.specs.Text.{Text, ascii, some_of, below, starts, between}
 use Rattle.definition.specs.Tables.{holds, table, closure}
 
 -- What a pattern describes.

@@ -1,4 +1,5 @@
 -- The word of an element.
+use Rattle.std.specs.Prelude.{if◌then◌else◌}
 use Prim.Native.Nat.{ℕ, ◌+◌, ◌/◌, ◌%◌, ◌<◌, ◌≤◌}
 use mathlib.Core.Path.{◌≡◌, sym, ap, subst, ◌∙◌}
 use mathlib.Core.Bool.{Bool}
@@ -7,7 +8,7 @@ use native.Mathlib.Omega.{arith}
 use borrow.Author.Tests.{eq-eqb, ne_eqb}
 use lib.ListN.{length, get_or, take, drop}
 use lib.Seq.{get_or-take, length-take-le}
-use Rattle.definition.specs.Text.{if◌then◌else◌, Text}
+use Rattle.definition.specs.Text.{Text}
 use Rattle.definition.specs.Limits.{document_01}
 use Rattle.definition.specs.Answer.{Answer, refused}
 use Rattle.definition.specs.Accept.{Accepted, accept, elements}

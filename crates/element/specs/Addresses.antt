@@ -1,6 +1,6 @@
 -- Where a part of one of two texts begins.
-use Rattle.std.specs.Prelude.{ℕ, ◌+◌, ◌≤◌, eqb, length}
-use Rattle.definition.specs.Text.{if◌then◌else◌, Text}
+use Rattle.std.specs.Prelude.{ℕ, ◌+◌, ◌≤◌, eqb, length, if◌then◌else◌}
+use Rattle.definition.specs.Text.{Text}
 use Rattle.definition.specs.Calls.{Part}
 
 -- the address of a part's first byte (a block of memory and an offset there), by those of the facts and of the query

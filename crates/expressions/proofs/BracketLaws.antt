@@ -8,7 +8,7 @@ use Prim.Native.Nat.{ℕ, zero, suc, ◌+◌, ◌*◌, ◌-◌, ◌≤◌, ◌<�
 use lib.Dec.{eqb}
 use lib.ListN.{length, drop}
 use lib.Seq.{sets}
-use borrow.Author.Tests.{eqb-true, eqb_false}
+use borrow.Author.Tests.{eqb-true, eqb-false}
 use Rattle.definition.proofs.GrammarReads.{Rule, Stands, Reads, Fails, read!, fail!, deep!, as!, as_fails!, ◌▸◌, ◌▹◌, stop!, done!, closed!, level, token!, no_token!, name!, no_name! }
 use Rattle.definition.proofs.GrammarExpressions.{group_rule, ex_rule, fa_rule, tc_rule, tcfast_rule, counted_rule, one_more!, one_more_fails!, body_rule, body_name_rule}
 use Rattle.definition.specs.Grammar.{Nonterminal, Tree, Expression, Primary, Quantified, Summand}
@@ -181,7 +181,7 @@ body_stands ws p h = at (eqb (kind_in ws p) NAME) refl
   where
     at : (c : Bool) → eqb (kind_in ws p) NAME ≡ c → Stands (phrase Quantified) (phrase Expression ∷ []) (λ fs. Grammar.quantified_body fs.0) (drop p (seen ws))
     at true c = let e = eqb-true (kind_in ws p) NAME c in body_name_rule (name_first ws p e) (not_key ws (p + 1) (h e))
-    at false c = body_rule (not_name ws p (eqb_false (kind_in ws p) NAME c))
+    at false c = body_rule (not_name ws p (eqb-false (kind_in ws p) NAME c))
 
 names_read : {ws : List ℕ} {p q d : ℕ} {vs : List ℕ} {t : Tree Expression} {r : List Terminal} → Names ws p q vs → d ≤ 32 → Reads d (phrase Expression ∷ []) (drop q (seen ws)) (t, tt) r → Reads d (phrase Quantified ∷ []) (drop p (seen ws)) (nest vs t, tt) r
 names_read {ws} (no_more {p} h) l f = as! (body_stands ws p h) f
@@ -369,7 +369,7 @@ closure_here k t e a b = at (eqb t TC) refl
   where
     at : (c : Bool) → eqb t TC ≡ c → Applies t CLOSURE
     at true c = subst (λ t. Applies t CLOSURE) (sym (eqb-true t TC c)) is_tc
-    at false c = let f = eqb_false t TC c in let g : t ≡ TCFAST = omega arith in subst (λ t. Applies t CLOSURE) (sym g) is_tcfast
+    at false c = let f = eqb-false t TC c in let g : t ≡ TCFAST = omega arith in subst (λ t. Applies t CLOSURE) (sym g) is_tcfast
 
 pub hash_here : {t : ℕ} → t ≡ HASH → Applies t COUNT
 hash_here e = subst (λ t. Applies t COUNT) (sym e) is_hash

@@ -1,6 +1,6 @@
 -- What the line reader answers, as what the definition says of the line.
-use Rattle.std.specs.Prelude.{ℕ, ◌+◌, ◌≤◌, List, [], ◌∷◌, map, get_or, take, drop}
-use Rattle.definition.specs.Text.{if◌then◌else◌, Text, ascii, starts, span, is_blank}
+use Rattle.std.specs.Prelude.{ℕ, ◌+◌, ◌≤◌, List, [], ◌∷◌, map, get_or, take, drop, if◌then◌else◌}
+use Rattle.definition.specs.Text.{Text, ascii, starts, span, is_blank}
 use Rattle.definition.specs.Limits.{WORD_BYTES, ARITY}
 use Rattle.definition.specs.Answer.{Answer, ok, refused, ◌>>=◌}
 use Rattle.definition.specs.Facts.{Line, Element, Fact, Word, none, one, wrong, word, elements, skipped, fact}

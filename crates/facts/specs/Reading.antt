@@ -1,6 +1,6 @@
 -- The facts of a text, line by line, and what the pass over its lines answers.
-use Rattle.std.specs.Prelude.{ℕ, ◌-◌, ◌≡◌, true, false, List, [], ◌∷◌, ◌++◌, map, length, take, drop, replicate}
-use Rattle.definition.specs.Text.{if◌then◌else◌, Text, ascii, starts, gather}
+use Rattle.std.specs.Prelude.{ℕ, ◌-◌, ◌≡◌, true, false, List, [], ◌∷◌, ◌++◌, map, length, take, drop, replicate, if◌then◌else◌}
+use Rattle.definition.specs.Text.{Text, ascii, starts, gather}
 use Rattle.definition.specs.Answer.{Answer, ok, refused, refusal}
 use Rattle.definition.specs.Facts.{Line, Fact, Facts, cut, lines, fact_lines, skipped, fact, read_facts}
 use Rattle.definition.specs.Join.{join_lines, read_second}

@@ -1,6 +1,6 @@
 -- Names and elements of the facts as numbers, and the lists of them that the definition's facts give.
-use Rattle.std.specs.Prelude.{ℕ, suc, ◌+◌, ◌/◌, ◌%◌, List, [], map, length, take, drop}
-use Rattle.definition.specs.Text.{if◌then◌else◌, Text, gather}
+use Rattle.std.specs.Prelude.{ℕ, suc, ◌+◌, ◌/◌, ◌%◌, List, [], map, length, take, drop, if◌then◌else◌}
+use Rattle.definition.specs.Text.{Text, gather}
 use Rattle.definition.specs.Facts.{Element, Fact, Relation}
 use Rattle.parts.specs.Packed.{pack, tag_of, text_of}
 use Rattle.parts.specs.Entries.{note_all, enter_all}

@@ -3,15 +3,15 @@
 #![tactic(auto)]
 
 use facts::{Counts, FactsRead, read_facts, read_second};
-use libc::STDOUT_FILENO;
 use lines::{put, put_text};
 use page::{put_number, put_refusal};
 use parts::{packed, part};
+use std::io;
 
 // Ends the line at place n and writes it.
-fn write_line(line: &mut [u8], n: usize) {
+fn write_line(rt: &impl Print, line: &mut [u8], n: usize) -> io::Result<()> {
     let end = put(line, n, 10, true);
-    io::write_all(STDOUT_FILENO, part(line, 0, end));
+    rt.write_all(part(line, 0, end))
 }
 
 fn put_read(line: &mut [u8], f: FactsRead) -> usize {
@@ -25,21 +25,26 @@ fn put_read(line: &mut [u8], f: FactsRead) -> usize {
     }
 }
 
-fn show_read(facts: &[u8], relations: &mut [usize], universe: &mut [usize]) {
+fn show_read(
+    rt: &impl Print,
+    facts: &[u8],
+    relations: &mut [usize],
+    universe: &mut [usize],
+) -> io::Result<()> {
     let mut line = [0u8; 256];
     let f = read_facts(facts, facts, relations, universe);
     let n = put_read(&mut line, f);
-    write_line(&mut line, n);
+    write_line(rt, &mut line, n)
 }
 
-fn show(facts: &[u8]) {
+fn show(rt: &impl Print, facts: &[u8]) -> io::Result<()> {
     let mut relations = [0usize; 2];
     let mut universe = [0usize; 4];
-    show_read(facts, &mut relations, &mut universe)
+    show_read(rt, facts, &mut relations, &mut universe)
 }
 
 // After the text "A x", of which one relation and one element are known
-fn show_second(facts: &[u8]) {
+fn show_second(rt: &impl Print, facts: &[u8]) -> io::Result<()> {
     let mut line = [0u8; 256];
     let mut relations = [0usize; 2];
     let mut universe = [0usize; 4];
@@ -51,109 +56,109 @@ fn show_second(facts: &[u8]) {
     universe[0] = packed(1, 2, 1, 0);
     let f = read_second(facts, b"A x", &mut relations, &mut universe, c);
     let n = put_read(&mut line, f);
-    write_line(&mut line, n);
+    write_line(rt, &mut line, n)
 }
 
 // "At most 16 relations", "at most 64" elements
-fn show_full(facts: &[u8]) {
+fn show_full(rt: &impl Print, facts: &[u8]) -> io::Result<()> {
     let mut relations = [0usize; 16];
     let mut universe = [0usize; 64];
-    show_read(facts, &mut relations, &mut universe)
+    show_read(rt, facts, &mut relations, &mut universe)
 }
 
-fn lists() {
-    show(b"On C10 C5\nOn C5 C2\nOn B7 C10\nHeld B7");
-    show(b"A x\nB x\nC x");
-    show(b"A a b c\nA a b d\nA a b e");
-    show(b"A x\nA x y");
-    show(b"A a b c d");
+fn lists(rt: &impl Print) -> io::Result<()> {
+    show(rt, b"On C10 C5\nOn C5 C2\nOn B7 C10\nHeld B7")?;
+    show(rt, b"A x\nB x\nC x")?;
+    show(rt, b"A a b c\nA a b d\nA a b e")?;
+    show(rt, b"A x\nA x y")?;
+    show(rt, b"A a b c d")
 }
 
-fn names() {
-    show(b" A x");
-    show(b"TRUE x");
-    show(b"# c\n \t\nA");
-    show(b"A x\n.\nTRUE x");
-    show(b"A234567890123456789012345678901");
-    show(b"A2345678901234567890123456789012");
-    show(b"A23456789012345678901234567890123");
+fn names(rt: &impl Print) -> io::Result<()> {
+    show(rt, b" A x")?;
+    show(rt, b"TRUE x")?;
+    show(rt, b"# c\n \t\nA")?;
+    show(rt, b"A x\n.\nTRUE x")?;
+    show(rt, b"A234567890123456789012345678901")?;
+    show(rt, b"A2345678901234567890123456789012")?;
+    show(rt, b"A23456789012345678901234567890123")
 }
 
-fn elements() {
-    show(b"A \"b\"\"c\"");
-    show(b"A b\"c");
-    show(b"A \"\" \"\"");
-    show(b"A \"x y\"");
-    show(b"A 1234567890123456789012345678901");
-    show(b"A 12345678901234567890123456789012");
-    show(b"A 123456789012345678901234567890123");
+fn elements(rt: &impl Print) -> io::Result<()> {
+    show(rt, b"A \"b\"\"c\"")?;
+    show(rt, b"A b\"c")?;
+    show(rt, b"A \"\" \"\"")?;
+    show(rt, b"A \"x y\"")?;
+    show(rt, b"A 1234567890123456789012345678901")?;
+    show(rt, b"A 12345678901234567890123456789012")?;
+    show(rt, b"A 123456789012345678901234567890123")
 }
 
 // "fact byte not 9, 10 or 32..126", and none after the dot is read
-fn bytes() {
-    show(b"A\tx\n");
-    show(b"A x\x01");
-    show(b"A \x1f");
-    show(b"A ~");
-    show(b"A \x7f");
-    show(b"A x\n.\x01");
-    show(b"A x y z w\n\x01");
+fn bytes(rt: &impl Print) -> io::Result<()> {
+    show(rt, b"A\tx\n")?;
+    show(rt, b"A x\x01")?;
+    show(rt, b"A \x1f")?;
+    show(rt, b"A ~")?;
+    show(rt, b"A \x7f")?;
+    show(rt, b"A x\n.\x01")?;
+    show(rt, b"A x y z w\n\x01")
 }
 
 // "one byte 13 directly before byte 10, or as the last byte of the text, belong to the line end"
-fn line_ends() {
-    show(b"On C10 C5\r\nOn C5 C2\r\nOn B7 C10\r\nHeld B7\r\n");
-    show(b"A x\r\nA x\nA y\r");
-    show(b"A \"x\"\r\nA x");
-    show(b"A x\r\n\r\n \t\r\n# c\r\n\r");
-    show(b"A x\r\n.\r\ry\r");
-    show(b"A 12345678901234567890123456789012\r\n");
-    show(b"A \"x\r\n");
-    show(b"A x\r\nA x y\r\n");
-    show(b"A x\r\nA \xc8\r\n");
+fn line_ends(rt: &impl Print) -> io::Result<()> {
+    show(rt, b"On C10 C5\r\nOn C5 C2\r\nOn B7 C10\r\nHeld B7\r\n")?;
+    show(rt, b"A x\r\nA x\nA y\r")?;
+    show(rt, b"A \"x\"\r\nA x")?;
+    show(rt, b"A x\r\n\r\n \t\r\n# c\r\n\r")?;
+    show(rt, b"A x\r\n.\r\ry\r")?;
+    show(rt, b"A 12345678901234567890123456789012\r\n")?;
+    show(rt, b"A \"x\r\n")?;
+    show(rt, b"A x\r\nA x y\r\n")?;
+    show(rt, b"A x\r\nA \xc8\r\n")
 }
 
 // "A byte 13 anywhere else keeps refusal 2"
-fn other_returns() {
-    show(b"A x\ry\r\n");
-    show(b"A \"x\ry\"\r\n");
-    show(b"# c\rd\r\n");
-    show(b"A x\r\r\n");
-    show(b"A x\r\r");
-    show(b"A x\rA y\r");
-    show(b"A x\r\n\r.");
+fn other_returns(rt: &impl Print) -> io::Result<()> {
+    show(rt, b"A x\ry\r\n")?;
+    show(rt, b"A \"x\ry\"\r\n")?;
+    show(rt, b"# c\rd\r\n")?;
+    show(rt, b"A x\r\r\n")?;
+    show(rt, b"A x\r\r")?;
+    show(rt, b"A x\rA y\r")?;
+    show(rt, b"A x\r\n\r.")
 }
 
 // The facts of both; "20 with the name's offset in the second text", and 5 where the first does not give the relation
-fn second_lists() {
-    show_second(b"A x");
-    show_second(b"A y\nB x y");
-    show_second(b"B x\n.\nA");
-    show_second(b"B\nA x y");
-    show_second(b"A");
-    show_second(b"A a b c d");
-    show_second(b"B x\nB");
-    show_second(b"B x\nB x y");
+fn second_lists(rt: &impl Print) -> io::Result<()> {
+    show_second(rt, b"A x")?;
+    show_second(rt, b"A y\nB x y")?;
+    show_second(rt, b"B x\n.\nA")?;
+    show_second(rt, b"B\nA x y")?;
+    show_second(rt, b"A")?;
+    show_second(rt, b"A a b c d")?;
+    show_second(rt, b"B x\nB")?;
+    show_second(rt, b"B x\nB x y")
 }
 
 // "6 and 7 count the union, with the place in the second"; 2 is of the second alone
-fn second_limits() {
-    show_second(b"A\nB\nC");
-    show_second(b"A x\nB\nC");
-    show_second(b"A a\nA b\nA c");
-    show_second(b"A a\nA b\nA c\nA d");
-    show_second(b"A\n\x7f");
+fn second_limits(rt: &impl Print) -> io::Result<()> {
+    show_second(rt, b"A\nB\nC")?;
+    show_second(rt, b"A x\nB\nC")?;
+    show_second(rt, b"A a\nA b\nA c")?;
+    show_second(rt, b"A a\nA b\nA c\nA d")?;
+    show_second(rt, b"A\n\x7f")
 }
 
 // 15, 16 and 17 relations
-fn many_relations() {
-    show_full(b"A\nB\nC\nD\nE\nF\nG\nH\nI\nJ\nK\nL\nM\nN\nO");
-    show_full(b"A\nB\nC\nD\nE\nF\nG\nH\nI\nJ\nK\nL\nM\nN\nO\nP");
-    show_full(b"A\nB\nC\nD\nE\nF\nG\nH\nI\nJ\nK\nL\nM\nN\nO\nP\nQ");
+fn many_relations(rt: &impl Print) -> io::Result<()> {
+    show_full(rt, b"A\nB\nC\nD\nE\nF\nG\nH\nI\nJ\nK\nL\nM\nN\nO")?;
+    show_full(rt, b"A\nB\nC\nD\nE\nF\nG\nH\nI\nJ\nK\nL\nM\nN\nO\nP")?;
+    show_full(rt, b"A\nB\nC\nD\nE\nF\nG\nH\nI\nJ\nK\nL\nM\nN\nO\nP\nQ")
 }
 
 // 63, 64 and 65 elements of one byte, one on each line
-fn many_elements() {
+fn many_elements(rt: &impl Print) -> io::Result<()> {
     let mut text = [10u8; 260];
     let mut i: usize = 0;
     while i < 65 {
@@ -162,37 +167,37 @@ fn many_elements() {
         text[4 * i + 2] = 48 + i as u8;
         i += 1;
     }
-    show_full(&text[..252]);
-    show_full(&text[..256]);
-    show_full(&text);
+    show_full(rt, &text[..252])?;
+    show_full(rt, &text[..256])?;
+    show_full(rt, &text)
 }
 
 // 32,767, 32,768 and 32,769 bytes, with a fact after a long comment; then a byte there that is not allowed
-fn many_bytes() {
+fn many_bytes(rt: &impl Print) -> io::Result<()> {
     let mut text = [b' '; 32769];
     text[0] = b'#';
     text[32764] = b'\n';
     text[32765] = b'A';
     text[32766] = b' ';
     text[32767] = b'x';
-    show_full(&text[..32767]);
-    show_full(&text[..32768]);
-    show_full(&text);
+    show_full(rt, &text[..32767])?;
+    show_full(rt, &text[..32768])?;
+    show_full(rt, &text)?;
     text[32767] = 1;
-    show_full(&text[..32768]);
-    show_full(&text);
+    show_full(rt, &text[..32768])?;
+    show_full(rt, &text)
 }
 
-fn main() {
-    lists();
-    names();
-    elements();
-    bytes();
-    line_ends();
-    other_returns();
-    second_lists();
-    second_limits();
-    many_relations();
-    many_elements();
-    many_bytes();
+fn main(rt: HostRuntime) -> io::Result<()> {
+    lists(&rt)?;
+    names(&rt)?;
+    elements(&rt)?;
+    bytes(&rt)?;
+    line_ends(&rt)?;
+    other_returns(&rt)?;
+    second_lists(&rt)?;
+    second_limits(&rt)?;
+    many_relations(&rt)?;
+    many_elements(&rt)?;
+    many_bytes(&rt)
 }

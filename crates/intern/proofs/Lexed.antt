@@ -1,4 +1,5 @@
 -- The lexer's words are the tokens that they hold.
+use Rattle.std.specs.Prelude.{if◌then◌else◌}
 use Prim.Native.Nat.{ℕ, zero, suc, ◌+◌, ◌%◌, ◌<◌}
 use mathlib.Core.Path.{◌≡◌, refl, sym, ap, ◌∙◌}
 use mathlib.Core.Bool.{Bool, true, false}
@@ -7,7 +8,7 @@ use native.Mathlib.Omega.{arith}
 use borrow.Author.Tests.{eqb-true}
 use lib.Dec.{eqb, ltb}
 use lib.ListN.{length, get_or}
-use Rattle.definition.specs.Text.{if◌then◌else◌, Text}
+use Rattle.definition.specs.Text.{Text}
 use Rattle.definition.specs.Token as Token
 use Rattle.definition.specs.Token.{Terminal, Token, token_at}
 use Rattle.lexer.specs.Tokens.{FIRST_SIGN, NAME, NUMBER, LARGE_NUMBER, sign_of, quote_of, terminal_of, token_of, tokens_of}

@@ -1,6 +1,6 @@
 -- A token as one word of 64 bits: its kind, the length of its text and the place of its first byte.
-use Rattle.std.specs.Prelude.{true, false, List, [], ◌∷◌, ℕ, suc, ◌+◌, ◌/◌, ◌%◌, ◌≤◌, ◌<◌, eqb, ltb, length, take, drop, get_or}
-use Rattle.definition.specs.Text.{Text, if◌then◌else◌}
+use Rattle.std.specs.Prelude.{true, false, List, [], ◌∷◌, ℕ, suc, ◌+◌, ◌/◌, ◌%◌, ◌≤◌, ◌<◌, eqb, ltb, length, take, drop, get_or, if◌then◌else◌}
+use Rattle.definition.specs.Text.{Text}
 use Rattle.definition.specs.Token.{Sign, equal, unequal, less, at_most, greater, at_least, Terminal, name, string, number, sign, key, Token}
 
 -- "identifiers; reserved words; strings in double quotes ..": the kinds 0 to 40 and 49 to 52 are the definition's keys; 41 to 46 are the six signs, then come an identifier and a string; a run of digits is of one kind up to 999,999 and of another above

@@ -1,4 +1,5 @@
 -- How long an element and a line can be.
+use Rattle.std.specs.Prelude.{if◌then◌else◌}
 use Prim.Native.Nat.{ℕ, ◌+◌, ◌*◌, ◌/◌, ◌%◌, ◌<◌, ◌≤◌, max}
 use mathlib.Core.Path.{◌≡◌, sym, ap, subst, ◌∙◌}
 use mathlib.Core.Bool.{Bool, true, false}
@@ -9,7 +10,7 @@ use native.Mathlib.Omega.{arith}
 use borrow.Author.Tests.{eq-eqb, ne_eqb}
 use lib.Dec.{eqb}
 use lib.ListN.{length, get_or, length-append, length-take, get_or-eq_default}
-use Rattle.definition.specs.Text.{if◌then◌else◌, Text, gather}
+use Rattle.definition.specs.Text.{Text, gather}
 use Rattle.definition.specs.Tables.{Tuple}
 use Rattle.parts.specs.Packed.{tag_of, text_of}
 use Rattle.lines.specs.Lines.{Texts, texts, element_at, shown_at, shown_most, after, line_of}

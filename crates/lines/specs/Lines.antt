@@ -1,6 +1,6 @@
 -- The line of a tuple.
-use Rattle.std.specs.Prelude.{ℕ, ◌+◌, ◌/◌, ◌%◌, List, [], ◌∷◌, ◌++◌, map, eqb, get_or}
-use Rattle.definition.specs.Text.{if◌then◌else◌, Text}
+use Rattle.std.specs.Prelude.{ℕ, ◌+◌, ◌/◌, ◌%◌, List, [], ◌∷◌, ◌++◌, map, eqb, get_or, if◌then◌else◌}
+use Rattle.definition.specs.Text.{Text}
 use Rattle.definition.specs.Tables.{Tuple}
 use Rattle.definition.specs.Print.{spaced}
 use Rattle.parts.specs.Packed.{tag_of, text_of}

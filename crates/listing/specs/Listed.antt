@@ -1,6 +1,6 @@
 -- What the test programs print of lists: a token, a word of a parsed program, a byte that is written.
-use Rattle.std.specs.Prelude.{ℕ, [], ◌∷◌, ◌++◌, eqb}
-use Rattle.definition.specs.Text.{if◌then◌else◌, Text}
+use Rattle.std.specs.Prelude.{ℕ, [], ◌∷◌, ◌++◌, eqb, if◌then◌else◌}
+use Rattle.definition.specs.Text.{Text}
 use Rattle.definition.specs.Decimals.{decimal}
 use Rattle.lexer.specs.Tokens as Tokens
 use Rattle.words.specs.Fields as Fields

@@ -1,7 +1,7 @@
 -- Sets of positions in an element, as words.
-use Rattle.std.specs.Prelude.{ℕ, zero, suc, ◌-◌, ◌^◌, ◌<◌, eqb, ◌≡◌, true, ◌&&◌, List, length}
+use Rattle.std.specs.Prelude.{ℕ, zero, suc, ◌-◌, ◌^◌, ◌<◌, eqb, ◌≡◌, true, ◌&&◌, List, length, if◌then◌else◌}
 use Rattle.std.specs.Int.Bits.{bit_or}
-use Rattle.definition.specs.Text.{if◌then◌else◌, Text, some_of, below}
+use Rattle.definition.specs.Text.{Text, some_of, below}
 use Rattle.definition.specs.Tables.{bit, word}
 use Rattle.definition.specs.Pattern.{Pattern, up_to, star, Reading, read, joined, spans}
 

@@ -1,6 +1,5 @@
 -- A set of numbers as a list in strictly ascending order, each number once.
-use Rattle.std.specs.Prelude.{ℕ, ◌<◌, List, [], ◌∷◌, ltb, eqb}
-use Rattle.definition.specs.Text.{if◌then◌else◌}
+use Rattle.std.specs.Prelude.{ℕ, ◌<◌, List, [], ◌∷◌, ltb, eqb, if◌then◌else◌}
 use Rattle.definition.proofs.InLaws.{In}
 
 -- each number is below all that follow it

@@ -1,6 +1,6 @@
 -- The line that closes an answer's page, written into a buffer.
-use Rattle.std.specs.Prelude.{ℕ, ◌≡◌, List, [], ◌∷◌, ◌++◌, ltb, length, drop}
-use Rattle.definition.specs.Text.{if◌then◌else◌, Text, ascii}
+use Rattle.std.specs.Prelude.{ℕ, ◌≡◌, List, [], ◌∷◌, ◌++◌, ltb, length, drop, if◌then◌else◌}
+use Rattle.definition.specs.Text.{Text, ascii}
 use Rattle.definition.specs.Answer.{number, place}
 use Rattle.definition.specs.Calls.{ran_answer}
 use Rattle.definition.specs.Decimals.{decimal}

@@ -1,4 +1,5 @@
 -- What the lexer and the parser answer, put together as the definition's read-query.
+use Rattle.std.specs.Prelude.{if◌then◌else◌}
 use mathlib.Core.Bool.{Bool, true, false}
 use mathlib.Core.List.{List, [], ◌∷◌, ◌++◌, append-nil}
 use mathlib.Core.Path.{◌≡◌, refl, ap, sym, subst, ◌∙◌}
@@ -19,7 +20,7 @@ use Rattle.definition.specs.Grammar as Grammar
 use Rattle.definition.specs.Limits.{QUERY_BYTES, TOKENS}
 use Rattle.definition.specs.Reader.{phrase, read_as, read_program}
 use Rattle.definition.specs.Syntax.{Program, says}
-use Rattle.definition.specs.Text.{Text, if◌then◌else◌}
+use Rattle.definition.specs.Text.{Text}
 use Rattle.definition.specs.Token.{Token, terminals, token_at, place_at, lexed}
 use Rattle.definition.specs.Token as Token
 use Rattle.intern.proofs.Lexed.{lexed_stand}

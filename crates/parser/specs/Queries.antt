@@ -1,12 +1,12 @@
 -- A query as its tokens and the words of its program, or the refusal of rows 8, 9, 10, 19 and 13 as the definition has it.
-use Rattle.std.specs.Prelude.{List, ◌≡◌, ℕ, ◌≤◌, ltb, length, take, get_or}
+use Rattle.std.specs.Prelude.{List, ◌≡◌, ℕ, ◌≤◌, ltb, length, take, get_or, if◌then◌else◌}
 use Rattle.definition.specs.Accept.{read_query}
 use Rattle.definition.specs.Answer as Answers
 use Rattle.definition.specs.Answer.{ok, number, place}
 use Rattle.definition.specs.declared.Refusal.{Refusal}
 use Rattle.definition.specs.declared.Refusal.TheVariants.{NoProgram, TooMuch, Number}
 use Rattle.definition.specs.Syntax.{Program}
-use Rattle.definition.specs.Text.{Text, if◌then◌else◌}
+use Rattle.definition.specs.Text.{Text}
 use Rattle.kinds.specs.Resolved.{Parsed}
 use Rattle.lexer.specs.Answers.{query_tokens}
 use Rattle.lexer.specs.Tokens.{at_of, tokens_of, Inside}

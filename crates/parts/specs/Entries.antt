@@ -1,6 +1,6 @@
 -- Lists of parts: those of the universe stand in byte order, and a tag of 1 says that the element is printed in quotes.
-use Rattle.std.specs.Prelude.{ℕ, ◌+◌, ◌≤◌, ◌≡◌, ◌&&◌, not, List, [], ◌∷◌, ◌++◌, map, ltb, eqb, length, drop}
-use Rattle.definition.specs.Text.{if◌then◌else◌, Text, same, earlier, span}
+use Rattle.std.specs.Prelude.{ℕ, ◌+◌, ◌≤◌, ◌≡◌, ◌&&◌, not, List, [], ◌∷◌, ◌++◌, map, ltb, eqb, length, drop, if◌then◌else◌}
+use Rattle.definition.specs.Text.{Text, same, earlier, span}
 use Rattle.parts.specs.Packed.{tag_of, text_of}
 use Rattle.parts.specs.declared.Entered.{Entered}
 use Rattle.parts.specs.declared.Entered.TheVariants.{Count, Full}

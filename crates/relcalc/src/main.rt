@@ -5,18 +5,24 @@ ghost use Rattle.std.specs.Prelude.{◌≤◌, length};
 ghost use Rattle.page.specs.Closing.{LINE_BYTES};
 ghost use Rattle.relcalc.specs.Prints.{Prints};
 
-use libc::STDOUT_FILENO;
+use std::io::Read;
+use std::rt::Files;
+use std::{fs, io};
 
 // Reads a file into buf as far as it fits, and answers the count. A file that can't be opened counts as empty.
-fn read_file(path: &[u8], buf: &mut [u8]) -> usize
+fn read_file(rt: &impl Files, path: &str, buf: &mut [u8]) -> usize
     ensures { result ≤ length buf.old }
 {
-    let fd = os::open_read(path);
-    if fd < 0 {
+    let Ok(mut file) = fs::open(rt, path) else {
         return 0;
+    };
+    let mut n = 0;
+    while n < buf.len() {
+        match file.read(&mut buf[n..]) {
+            Ok(0) | Err(_) => break,
+            Ok(k) => n += k,
+        }
     }
-    let n = io::read_full(fd, buf);
-    libc::close(fd);
     n
 }
 
@@ -45,17 +51,17 @@ fn calculate<'a>(
     Printed { output: n, line: k }
 }
 
-fn main() {
+fn main(rt: HostRuntime) -> io::Result<()> {
     let mut facts = [0u8; 32769];
     let mut query = [0u8; 16385];
     let mut store = [0u64; 8192];
     let mut output = [0u8; 32768];
     let mut line = [0u8; 30];
-    let f = read_file(b"facts.rsf", &mut facts);
-    let q = read_file(b"query.rml", &mut query);
+    let f = read_file(&rt, "facts.rsf", &mut facts);
+    let q = read_file(&rt, "query.rml", &mut query);
     let p = calculate(&facts[..f], &query[..q], &mut store, &mut output, &mut line);
     let n = p.output;
     let k = p.line;
-    io::write_all(STDOUT_FILENO, &output[..n]);
-    io::write_all(STDOUT_FILENO, &line[..k]);
+    rt.write_all(&output[..n])?;
+    rt.write_all(&line[..k])
 }

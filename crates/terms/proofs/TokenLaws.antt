@@ -1,4 +1,5 @@
 -- What the kind of a token says of what the grammar sees from there on.
+use Rattle.std.specs.Prelude.{if◌then◌else◌}
 use mathlib.Core.List.{List, [], ◌∷◌, map}
 use mathlib.Core.Bool.{Bool, true, false}
 use mathlib.Core.Path.{◌≡◌, refl, ap, sym, ◌∙◌}
@@ -9,7 +10,6 @@ use lib.ListN.{length, drop, get_or}
 use borrow.Author.Tests.{ne_eqb, lt-ltb, le-ltb, ltb-true, ltb-false, eqb-true, eqb-false}
 use Rattle.definition.proofs.GrammarReads.{Next, nothing, a_name, a_string, a_number, a_sign, a_key, next}
 use Rattle.definition.proofs.GrammarExpressions.{begins_quantity, not_quantity}
-use Rattle.definition.specs.Text.{if◌then◌else◌}
 use Rattle.definition.specs.Token as Token
 use Rattle.definition.specs.Token.{Sign, equal, unequal, less, at_most, greater, at_least, Terminal, name, string, sign, key, Token, terminals, token_at}
 use Rattle.terms.specs.declared.Answer.{Answer}

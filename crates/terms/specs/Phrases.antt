@@ -1,12 +1,11 @@
 -- What a function that reads a phrase answers: the tree that the definition's reader has there, with its words written, or its refusal.
-use Rattle.std.specs.Prelude.{List, [], ◌∷◌, map, ◌≡◌, ℕ, zero, suc, ◌+◌, ◌≤◌, ◌<◌, eqb, length, drop}
+use Rattle.std.specs.Prelude.{List, [], ◌∷◌, map, ◌≡◌, ℕ, zero, suc, ◌+◌, ◌≤◌, ◌<◌, eqb, length, drop, if◌then◌else◌}
 use Rattle.std.proofs.lemmas.List.Edits.{sets}
 use Rattle.definition.proofs.GrammarReads.{Reads, Fails}
 use Rattle.definition.specs.Grammar.{Nonterminal, Tree, Expression, Implication, Disjunction, Conjunction, Negation, Primary, Quantity}
 use Rattle.definition.specs.Reader.{phrase}
 use Rattle.definition.specs.Syntax as Syntax
 use Rattle.definition.specs.Syntax.{says}
-use Rattle.definition.specs.Text.{if◌then◌else◌}
 use Rattle.definition.specs.Token.{Terminal, Token, terminals}
 use Rattle.terms.specs.declared.Answer.{Answer}
 use Rattle.terms.specs.declared.Answer.TheVariants.{Read, Refused}

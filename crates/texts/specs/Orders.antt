@@ -1,5 +1,6 @@
 -- How two texts stand to each other in byte order.
-use Rattle.definition.specs.Text.{if◌then◌else◌, Text, same, earlier}
+use Rattle.std.specs.Prelude.{if◌then◌else◌}
+use Rattle.definition.specs.Text.{Text, same, earlier}
 use Rattle.texts.specs.declared.Order.{Order}
 use Rattle.texts.specs.declared.Order.TheVariants.{Before, Same, After}
 

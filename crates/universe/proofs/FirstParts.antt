@@ -1,4 +1,5 @@
 -- Parts entered into a list in byte order: each text stands there once, as the first part that was entered with it, and quoted if some part was.
+use Rattle.std.specs.Prelude.{if◌then◌else◌}
 use Prim.Native.Nat.{ℕ, zero, suc, ◌+◌, ◌%◌, ◌<◌}
 use mathlib.Core.Path.{◌≡◌, refl, sym, ap, ap₂, subst, ◌∙◌}
 use mathlib.Core.Bool.{Bool, true, false, ◌&&◌, ◌||◌, cond, or-false, or_assoc}
@@ -7,7 +8,7 @@ use native.Mathlib.Omega.{arith}
 use borrow.Author.Tests.{eqb-true, eqb-false, eq-eqb}
 use lib.Dec.{T, eqb}
 use lib.ListN.{length, get_or}
-use Rattle.definition.specs.Text.{if◌then◌else◌, Text, same, earlier, member, some_of}
+use Rattle.definition.specs.Text.{Text, same, earlier, member, some_of}
 use Rattle.definition.specs.Calls.{Part, part_text}
 use Rattle.definition.proofs.BoolLaws.{or_left_comm}
 use Rattle.definition.proofs.MeaningLaws.{same_eq, same_refl, same_itself}

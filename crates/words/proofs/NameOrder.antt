@@ -41,7 +41,8 @@ module _ (ts : List Token) (few : length ts < 65536) where
   pub leaves_uses : (k : ℕ) (p : Role) (ps : List Term) → 0 < k → k ≤ NEXT → role_of k 0 ≡ p → OwnTerms ts ps → Shows ts (leaves k ps) (in_terms p ps)
   unfolding leaves in_terms OwnTerms
   leaves_uses k p [] a b e o = none
-  leaves_uses k p (name t ∷ ps) a b e o = rw (← e) (first k 0 0 t a b o.0 (omega arith) (rw e (leaves_uses k p ps a b e o.1)))
+  leaves_uses k p (name t ∷ ps) a b e o =
+      subst (λ (q : Role). Shows ts (leaves k (name t ∷ ps)) (use_as q t ∷ in_terms p ps)) e (first k 0 0 t a b o.0 (omega arith) (leaves_uses k p ps a b e o.1))
   leaves_uses k p (string t ∷ ps) a b e o = skip (STRING + k) (number t) 0 0 (omega arith) (omega arith) (leaves_uses k p ps a b e o.1)
   leaves_uses k p (anything ∷ ps) a b e o = skip ANYTHING 0 0 0 (omega arith) (omega arith) (leaves_uses k p ps a b e o.1)
 

@@ -13,5 +13,5 @@ returns-in-Refused c = λ ts p f q.
 pub returns-in-Done : goal.returns-in-Done
 returns-in-Done c = let r = c.resolve in
     λ ts p f q.
-    let k = names_right c.args.facts.now c.args.query.now c.args.relations.now c.args.places.now c.args.c f c.args.tokens.now c.args.words.now ts p q r.new.1.1.1.1.0 r.new.1.1.1.1.1.0 r.new.1.1.1.1.1.1.0 _ _ c.in-Done.is r.ensures.kinds (omega arith) r.ensures.numbers (omega (arith, c.requires)) in
+    let k = names_right c.args.facts.now c.args.query.now c.args.relations.now c.args.places.now c.args.c f c.args.tokens.now c.args.words.now ts p q r.new.ids r.new.known r.new.relations _ _ c.in-Done.is r.ensures.kinds (omega arith) r.ensures.numbers (omega (arith, c.requires)) in
     c.with_names.ensures c.args.relations.now _ ts p k.kinds f q k.names

@@ -29,7 +29,7 @@ chain_between-requires c = let p = c.position_of-a.ensures.within in
 
 pub returns : goal.returns
 returns c = let a = c.args in
-    subst (λ (m : Answer Asked). chain_meets m a.name.now a.buffer.now c.chain_between.result c.chain_between.new.1.1.1.1.1.1.0)
+    subst (λ (m : Answer Asked). chain_meets m a.name.now a.buffer.now c.chain_between.result c.chain_between.new.buffer)
     (sym (in_facts a.facts.now a.name.now a.first.now a.second.now a.relations.now a.universe.now (read_ascending c.requires) _ _ _ (sym c.is_binary.ensures ∙ not-false _ c.if-not-is_binary.false-raw)
     c.position_of-a.ensures.value c.position_of-a.ensures.within c.if-a-u.false c.position_of-b.ensures.value c.position_of-b.ensures.within c.if-b-u.false c.if-buffer-lt65.false))
     (c.chain_between.ensures a.relations.now)

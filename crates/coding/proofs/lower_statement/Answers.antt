@@ -16,5 +16,5 @@ lower_part-requires c = let p = c.requires.s_le_k in (omega arith, omega arith)
 
 pub returns : goal.returns
 returns c = let a = c.args in
-    let d = turned a.facts.now a.query.now a.places.now a.tokens.now a.ids.now a.known.now a.words.now a.u a.depths.now a.s a.k _ c.collect-f.ensures c.set_codes.new.1.1.1.1.1.1.1.1.1.0 c.fill.new.1.1.1.0 _ _ c.if-f-gt4.false c.set_codes.ensures c.fill.ensures.filled c.fill.ensures.small_2 c.lower_part.ensures in
+    let d = turned a.facts.now a.query.now a.places.now a.tokens.now a.ids.now a.known.now a.words.now a.u a.depths.now a.s a.k _ c.collect-f.ensures c.set_codes.new.codes c.fill.new.fr _ _ c.if-f-gt4.false c.set_codes.ensures c.fill.ensures.filled c.fill.ensures.small_2 c.lower_part.ensures in
     record { turned = d; small_2 = c.fill.ensures.small_2 }

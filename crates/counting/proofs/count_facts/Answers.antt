@@ -18,9 +18,6 @@ enter_facts-n-requires c = let p = c.requires in (p.0, p.1, p.2, omega arith, no
 pub slice_bounds-tally-end : goal.slice_bounds-tally-end
 slice_bounds-tally-end c = sym (length-take-le _ _ (search rules))
 
-pub tally-requires : goal.tally-requires
-tally-requires c = omega (arith, slice-aggregate-tally c)
-
 pub returns : goal.returns
 returns c = let a = c.args in
     λ w g.

@@ -33,36 +33,36 @@ returns-in-NoMore c = let L = c.loop-a in
     record { value = λ w g gs e i. entered_last w gs (all_facts c.args.facts.now) (subst (λ (hs : List AFact). Entered w gs (all_facts c.args.facts.now) hs (take L.count L.words)) done (L.invariant.4 w g gs e i)); within = L.invariant.1; ascending = L.invariant.3 }
 
 pub fact_number-v-requires : goal.fact_number-v-requires
-fact_number-v-requires c = 
+fact_number-v-requires c =
     let next_is : NextIs c.args.facts.now c.loop-a.at (Fact c.in-Fact.a c.in-Fact.f c.in-Fact.next) = subst (NextIs c.args.facts.now c.loop-a.at) c.in-Fact.is c.next_fact.ensures in
     let h = next_is in
     let p = c.requires in
     (p.1, p.2, omega (arith, h.3, p.0), all_wider _ _ _ (omega (arith, p.0)) h.4)
 
 pub enter-count-requires : goal.enter-count-requires
-enter-count-requires c = 
+enter-count-requires c =
     let next_is : NextIs c.args.facts.now c.loop-a.at (Fact c.in-Fact.a c.in-Fact.f c.in-Fact.next) = subst (NextIs c.args.facts.now c.loop-a.at) c.in-Fact.is c.next_fact.ensures in
-    let few_more : c.loop-a.count < c.args.n + 16384 = let h = next_is c in
-        let L = c.loop-a in
-        let p = c.requires in
-        omega (arith, h.1, h.3, p.0, L.invariant.2) in
-    let room : c.loop-a.count < length c.loop-a.words = omega (arith, few_more c, c.requires.3, c.loop-a.invariant.0) in
+    let few_more : c.loop-a.count < c.args.n + 16384 = let h = next_is in
+    let L = c.loop-a in
+    let p = c.requires in
+    omega (arith, h.1, h.3, p.0, L.invariant.2) in
+    let room : c.loop-a.count < length c.loop-a.words = omega (arith, few_more, c.requires.3, c.loop-a.invariant.0) in
     (room, c.loop-a.invariant.3)
 
 pub loop-a-smaller : goal.loop-a-smaller
-loop-a-smaller c = 
+loop-a-smaller c =
     let next_is : NextIs c.args.facts.now c.loop-a.at (Fact c.in-Fact.a c.in-Fact.f c.in-Fact.next) = subst (NextIs c.args.facts.now c.loop-a.at) c.in-Fact.is c.next_fact.ensures in
     let h = next_is in
     omega (arith, h.1, h.2, h.3)
 
 pub loop-a-preserved : goal.loop-a-preserved
-loop-a-preserved c = 
+loop-a-preserved c =
     let next_is : NextIs c.args.facts.now c.loop-a.at (Fact c.in-Fact.a c.in-Fact.f c.in-Fact.next) = subst (NextIs c.args.facts.now c.loop-a.at) c.in-Fact.is c.next_fact.ensures in
-    let few_more : c.loop-a.count < c.args.n + 16384 = let h = next_is c in
-        let L = c.loop-a in
-        let p = c.requires in
-        omega (arith, h.1, h.3, p.0, L.invariant.2) in
-    let room : c.loop-a.count < length c.loop-a.words = omega (arith, few_more c, c.requires.3, c.loop-a.invariant.0) in
+    let few_more : c.loop-a.count < c.args.n + 16384 = let h = next_is in
+    let L = c.loop-a in
+    let p = c.requires in
+    omega (arith, h.1, h.3, p.0, L.invariant.2) in
+    let room : c.loop-a.count < length c.loop-a.words = omega (arith, few_more, c.requires.3, c.loop-a.invariant.0) in
     let L = c.loop-a in
     let h = next_is in
     let v = c.fact_number-v.result in

@@ -40,4 +40,4 @@ returns-in-Refused c = refuses (not_taken _ _ _ _ _ _ _ _ c.accept.ensures _ c.i
 pub returns-in-Accepted : goal.returns-in-Accepted
 returns-in-Accepted c = let t = taken _ _ _ _ _ _ _ _ c.accept.ensures _ c.in-Accepted.is in
     prepared t.w
-    (fits_so _ _ _ _ _ _ _ _ _ t.w t.sized _ refl _ (omega (arith, (few_sized _ _ _ _ _ _ _ _ _ t.w t.sized).1, same-length-4 c, same-length-5 c, same-length-6 c, c.requires.relations_len)) c.translate.ensures)
+    (fits_so _ _ _ _ _ _ _ _ _ t.w t.sized _ refl _ (omega (arith, (few_sized _ _ _ _ _ _ _ _ _ t.w t.sized).1, c.requires.relations_len)) c.translate.ensures)

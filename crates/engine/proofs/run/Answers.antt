@@ -31,11 +31,11 @@ pub with_texts-requires : goal.with_texts-requires
 with_texts-requires c = let t = held _ _ _ _ _ c.read.ensures _ c.in-Accepted.is in (t.fits.given.few_relations, t.fits.given.few_places, t.fits.given.short)
 
 pub returns-in-Refused : goal.returns-in-Refused
-returns-in-Refused c = 
+returns-in-Refused c =
     let h = refused_so c.args.facts.now c.args.query.now c.args.budget c.args.store.now c.args.output.now _ (not_held _ _ _ _ _ c.read.ensures _ c.in-Refused.is) _ c.not_run.ensures in
     record { run_meets = h.0; counts_meet = h.1 }
 
 pub returns-in-Accepted : goal.returns-in-Accepted
-returns-in-Accepted c = 
+returns-in-Accepted c =
     let h = let t = held _ _ _ _ _ c.read.ensures _ c.in-Accepted.is in c.with_texts.ensures t.w t.fits.given in
     record { run_meets = h.0; counts_meet = h.1 }

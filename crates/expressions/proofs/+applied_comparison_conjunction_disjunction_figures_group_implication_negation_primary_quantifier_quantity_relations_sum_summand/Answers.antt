@@ -8,6 +8,7 @@ use Rattle.expressions.proofs.OperatorLaws.{paid_of, tail_stops, comparison_tail
 use Rattle.expressions.proofs.QuantityLaws.{sum_chain, chain_ninth, sum_on, sum_paid, sum_room, quantity_stops, quantity_ends, quantity_joins, figures_stop, figures_alone, figures_join}
 use Rattle.terms.proofs.TokenLaws.{kind_within}
 use Rattle.expressions.proofs.+applied_comparison_conjunction_disjunction_figures_group_implication_negation_primary_quantifier_quantity_relations_sum_summand.Goals as goal
+use Rattle.expressions.proofs.+applied_comparison_conjunction_disjunction_figures_group_implication_negation_primary_quantifier_quantity_relations_sum_summand.Goals.{primary-in_default-via-then-this-lt35, primary-in_default-via-else-this-lt35+else-this-lt37}
 
 pub applied-returns-then-d-ge32 : goal.applied-returns-then-d-ge32
 applied-returns-then-d-ge32 t c = applied_deep _ _ _ _ _ _ c.requires.0 c.if-d-ge32.true
@@ -31,37 +32,37 @@ pub comparison-relations-requires : goal.comparison-relations-requires
 comparison-relations-requires t c = (omega arith, (rw c.if-begins_quantity.false at c.begins_quantity.ensures, c.requires))
 
 pub conjunction-shape_of-words-in_default : goal.conjunction-shape_of-words-in_default
-conjunction-shape_of-words-in_default t c = 
+conjunction-shape_of-words-in_default t c =
     let conjunction_sofar : Linked and_chain 0 c.args.tokens.now c.args.p c.args.n c.args.d c.args.words.now c.loop-a.words 0 c.loop-a.a = c.loop-a.invariant c.args.words.now (chain_starts and_chain 0 c.negation-a.ensures c.negation-a.auto.words) in
     (conjunction_sofar).long
 
 pub conjunction-returns-in_default : goal.conjunction-returns-in_default
-conjunction-returns-in_default t c = 
+conjunction-returns-in_default t c =
     let conjunction_sofar : Linked and_chain 0 c.args.tokens.now c.args.p c.args.n c.args.d c.args.words.now c.loop-a.words 0 c.loop-a.a = c.loop-a.invariant c.args.words.now (chain_starts and_chain 0 c.negation-a.ensures c.negation-a.auto.words) in
     and_whole (chain_stops and_chain 0 (conjunction_sofar) c.in_default.is)
 
 pub conjunction-shape_of-words-then-kind_at-ne9 : goal.conjunction-shape_of-words-then-kind_at-ne9
-conjunction-shape_of-words-then-kind_at-ne9 t c = 
+conjunction-shape_of-words-then-kind_at-ne9 t c =
     let conjunction_sofar : Linked and_chain 0 c.args.tokens.now c.args.p c.args.n c.args.d c.args.words.now c.loop-a.words 0 c.loop-a.a = c.loop-a.invariant c.args.words.now (chain_starts and_chain 0 c.negation-a.ensures c.negation-a.auto.words) in
     (conjunction_sofar).long
 
 pub conjunction-returns-then-kind_at-ne9 : goal.conjunction-returns-then-kind_at-ne9
-conjunction-returns-then-kind_at-ne9 t c = 
+conjunction-returns-then-kind_at-ne9 t c =
     let conjunction_sofar : Linked and_chain 0 c.args.tokens.now c.args.p c.args.n c.args.d c.args.words.now c.loop-a.words 0 c.loop-a.a = c.loop-a.invariant c.args.words.now (chain_starts and_chain 0 c.negation-a.ensures c.negation-a.auto.words) in
     and_whole (chain_ends and_chain 0 (conjunction_sofar) c.in-Read.is (λ e. c.if-kind_at-ne9.true (c.kind_at.ensures ∙ e)))
 
 pub conjunction-overflow_add-q : goal.conjunction-overflow_add-q
-conjunction-overflow_add-q t c = 
+conjunction-overflow_add-q t c =
     let conjunction_sofar : Linked and_chain 0 c.args.tokens.now c.args.p c.args.n c.args.d c.args.words.now c.loop-a.words 0 c.loop-a.a = c.loop-a.invariant c.args.words.now (chain_starts and_chain 0 c.negation-a.ensures c.negation-a.auto.words) in
     let o = chain_paid and_chain 0 (conjunction_sofar) c.in-Read.is in omega arith
 
 pub conjunction-negation-b-requires : goal.conjunction-negation-b-requires
-conjunction-negation-b-requires t c = 
+conjunction-negation-b-requires t c =
     let conjunction_sofar : Linked and_chain 0 c.args.tokens.now c.args.p c.args.n c.args.d c.args.words.now c.loop-a.words 0 c.loop-a.a = c.loop-a.invariant c.args.words.now (chain_starts and_chain 0 c.negation-a.ensures c.negation-a.auto.words) in
     let h = conjunction_sofar in let o = chain_paid and_chain 0 h c.in-Read.is in let l = kind_within c.args.tokens.now c.in-Read.q (omega (arith, c.kind_at.ensures)) in omega (arith, h.long)
 
 pub conjunction-join-a-requires : goal.conjunction-join-a-requires
-conjunction-join-a-requires t c = 
+conjunction-join-a-requires t c =
     let conjunction_sofar : Linked and_chain 0 c.args.tokens.now c.args.p c.args.n c.args.d c.args.words.now c.loop-a.words 0 c.loop-a.a = c.loop-a.invariant c.args.words.now (chain_starts and_chain 0 c.negation-a.ensures c.negation-a.auto.words) in
     let h = conjunction_sofar in let o = chain_paid and_chain 0 h c.in-Read.is in let l = kind_within c.args.tokens.now c.in-Read.q (omega (arith, c.kind_at.ensures)) in join_room 15 0 c.negation-b.ensures (omega arith) (omega arith) (omega arith) (omega arith) (omega arith) (omega (arith, h.long))
 
@@ -72,37 +73,37 @@ pub conjunction-loop-a-preserved : goal.conjunction-loop-a-preserved
 conjunction-loop-a-preserved t c = λ A s. let h = c.loop-a.invariant A s in chain_on and_chain 0 h c.in-Read.is (omega arith) (sym c.kind_at.ensures ∙ c.if-kind_at-ne9.false) c.negation-b.ensures c.join-a.ensures (c.join-a.auto.words ∙ c.negation-b.auto.words ∙ h.long)
 
 pub disjunction-shape_of-words-in_default : goal.disjunction-shape_of-words-in_default
-disjunction-shape_of-words-in_default t c = 
+disjunction-shape_of-words-in_default t c =
     let disjunction_sofar : Linked or_chain 0 c.args.tokens.now c.args.p c.args.n c.args.d c.args.words.now c.loop-a.words 0 c.loop-a.a = c.loop-a.invariant c.args.words.now (chain_starts or_chain 0 c.conjunction-a.ensures c.conjunction-a.auto.words) in
     (disjunction_sofar).long
 
 pub disjunction-returns-in_default : goal.disjunction-returns-in_default
-disjunction-returns-in_default t c = 
+disjunction-returns-in_default t c =
     let disjunction_sofar : Linked or_chain 0 c.args.tokens.now c.args.p c.args.n c.args.d c.args.words.now c.loop-a.words 0 c.loop-a.a = c.loop-a.invariant c.args.words.now (chain_starts or_chain 0 c.conjunction-a.ensures c.conjunction-a.auto.words) in
     or_whole (chain_stops or_chain 0 (disjunction_sofar) c.in_default.is)
 
 pub disjunction-shape_of-words-then-kind_at-ne10 : goal.disjunction-shape_of-words-then-kind_at-ne10
-disjunction-shape_of-words-then-kind_at-ne10 t c = 
+disjunction-shape_of-words-then-kind_at-ne10 t c =
     let disjunction_sofar : Linked or_chain 0 c.args.tokens.now c.args.p c.args.n c.args.d c.args.words.now c.loop-a.words 0 c.loop-a.a = c.loop-a.invariant c.args.words.now (chain_starts or_chain 0 c.conjunction-a.ensures c.conjunction-a.auto.words) in
     (disjunction_sofar).long
 
 pub disjunction-returns-then-kind_at-ne10 : goal.disjunction-returns-then-kind_at-ne10
-disjunction-returns-then-kind_at-ne10 t c = 
+disjunction-returns-then-kind_at-ne10 t c =
     let disjunction_sofar : Linked or_chain 0 c.args.tokens.now c.args.p c.args.n c.args.d c.args.words.now c.loop-a.words 0 c.loop-a.a = c.loop-a.invariant c.args.words.now (chain_starts or_chain 0 c.conjunction-a.ensures c.conjunction-a.auto.words) in
     or_whole (chain_ends or_chain 0 (disjunction_sofar) c.in-Read.is (λ e. c.if-kind_at-ne10.true (c.kind_at.ensures ∙ e)))
 
 pub disjunction-overflow_add-q : goal.disjunction-overflow_add-q
-disjunction-overflow_add-q t c = 
+disjunction-overflow_add-q t c =
     let disjunction_sofar : Linked or_chain 0 c.args.tokens.now c.args.p c.args.n c.args.d c.args.words.now c.loop-a.words 0 c.loop-a.a = c.loop-a.invariant c.args.words.now (chain_starts or_chain 0 c.conjunction-a.ensures c.conjunction-a.auto.words) in
     let o = chain_paid or_chain 0 (disjunction_sofar) c.in-Read.is in omega arith
 
 pub disjunction-conjunction-b-requires : goal.disjunction-conjunction-b-requires
-disjunction-conjunction-b-requires t c = 
+disjunction-conjunction-b-requires t c =
     let disjunction_sofar : Linked or_chain 0 c.args.tokens.now c.args.p c.args.n c.args.d c.args.words.now c.loop-a.words 0 c.loop-a.a = c.loop-a.invariant c.args.words.now (chain_starts or_chain 0 c.conjunction-a.ensures c.conjunction-a.auto.words) in
     let h = disjunction_sofar in let o = chain_paid or_chain 0 h c.in-Read.is in let l = kind_within c.args.tokens.now c.in-Read.q (omega (arith, c.kind_at.ensures)) in omega (arith, h.long)
 
 pub disjunction-join-a-requires : goal.disjunction-join-a-requires
-disjunction-join-a-requires t c = 
+disjunction-join-a-requires t c =
     let disjunction_sofar : Linked or_chain 0 c.args.tokens.now c.args.p c.args.n c.args.d c.args.words.now c.loop-a.words 0 c.loop-a.a = c.loop-a.invariant c.args.words.now (chain_starts or_chain 0 c.conjunction-a.ensures c.conjunction-a.auto.words) in
     let h = disjunction_sofar in let o = chain_paid or_chain 0 h c.in-Read.is in let l = kind_within c.args.tokens.now c.in-Read.q (omega (arith, c.kind_at.ensures)) in join_room 16 0 c.conjunction-b.ensures (omega arith) (omega arith) (omega arith) (omega arith) (omega arith) (omega (arith, h.long))
 
@@ -170,7 +171,7 @@ pub implication-returns-in-13 : goal.implication-returns-in-13
 implication-returns-in-13 t c = iff_joins c.in-Read.is c.disjunction-a.ensures (omega arith) (sym c.kind_at.ensures ∙ c.in-13.is) c.disjunction-b-in-13.ensures c.join-in-13.ensures
 
 pub implication-returns-in_default-kind_at : goal.implication-returns-in_default-kind_at
-implication-returns-in_default-kind_at t c = no_arrow_ends c.in-Read.is c.disjunction-a.ensures (λ e. c.in_default-kind_at.rest.0.1 (c.kind_at.ensures ∙ e)) (λ e. c.in_default-kind_at.rest.1 (c.kind_at.ensures ∙ e))
+implication-returns-in_default-kind_at t c = no_arrow_ends c.in-Read.is c.disjunction-a.ensures (λ e. c.in_default-kind_at.in_default-kind_at-own.rest.0.1 (c.kind_at.ensures ∙ e)) (λ e. c.in_default-kind_at.in_default-kind_at-own.rest.1 (c.kind_at.ensures ∙ e))
 
 pub negation-returns-then-kind_at-ne11 : goal.negation-returns-then-kind_at-ne11
 negation-returns-then-kind_at-ne11 t c = negation_plain (λ e. c.if-kind_at-ne11.true (c.kind_at.ensures ∙ e)) c.primary.ensures
@@ -182,7 +183,7 @@ pub negation-negation-a-requires : goal.negation-negation-a-requires
 negation-negation-a-requires t c = let l = kind_within c.args.tokens.now c.args.p (omega (arith, c.kind_at.ensures, c.if-kind_at-ne11.false)) in omega arith
 
 pub negation-wrap-requires : goal.negation-wrap-requires
-negation-wrap-requires t c = let l = kind_within c.args.tokens.now c.args.p (omega (arith, c.kind_at.ensures, c.if-kind_at-ne11.false)) in wrap_room c.args.tokens.now (c.args.p + 1) c.args.n (length c.negation-a.new.1.0) c.negation-a.result 14 c.negation-a.ensures.bounds (omega arith) (omega arith) (omega arith) (omega arith)
+negation-wrap-requires t c = let l = kind_within c.args.tokens.now c.args.p (omega (arith, c.kind_at.ensures, c.if-kind_at-ne11.false)) in wrap_room c.args.tokens.now (c.args.p + 1) c.args.n (length c.negation-a.new.words) c.negation-a.result 14 c.negation-a.ensures.bounds (omega arith) (omega arith) (omega arith) (omega arith)
 
 pub negation-returns : goal.negation-returns
 negation-returns t c = negation_wraps (kind_within c.args.tokens.now c.args.p (omega (arith, c.kind_at.ensures, c.if-kind_at-ne11.false))) c.if-d-ge32.false (sym c.kind_at.ensures ∙ c.if-kind_at-ne11.false) c.negation-a.ensures c.wrap.ensures
@@ -197,10 +198,14 @@ pub primary-quantifier-requires-in-22 : goal.primary-quantifier-requires-in-22
 primary-quantifier-requires-in-22 t c = (omega arith, (fa_here (sym c.kind_at.ensures ∙ c.in-22.is), omega arith))
 
 pub primary-applied-requires : goal.primary-applied-requires
-primary-applied-requires t c = (omega arith, (closure_here _ _ c.kind_at.ensures c.if-this-lt35.false c.if-this-lt37.true, omega arith))
+primary-applied-requires t c = (omega arith, (closure_here _ _ c.kind_at.ensures (omega arith) (omega arith), omega arith))
 
 pub primary-atom-requires : goal.primary-atom-requires
-primary-atom-requires t c = (plain_here _ _ c.kind_at.ensures c.in_default-1.rest.0.0.1 c.in_default-1.rest.0.1 c.in_default-1.rest.1 (⊎_elim (λ w. inl w.taken) (λ w. inr w.1.left) c.in_default.branch), omega arith)
+primary-atom-requires t c = (
+  plain_here _ _ c.kind_at.ensures (λ e. omega arith) (λ e. omega arith) (λ e. omega arith)
+      (elim c.in_default.branch [ primary-in_default-via-then-this-lt35 w ↦ inl (omega arith) | primary-in_default-via-else-this-lt35+else-this-lt37 w ↦ inr (omega arith) ]),
+  omega arith,
+)
 
 pub primary-returns-in_default : goal.primary-returns-in_default
 primary-returns-in_default t c = c.atom.ensures _ (omega arith)
@@ -263,52 +268,52 @@ pub relations-returns : goal.relations-returns
 relations-returns t c = sign_joins c.in-Read.is c.requires.0 c.implication-a.ensures (omega arith) (omega (arith, c.kind_at-g.ensures, c.if-g-lt41.false)) (omega (arith, c.kind_at-g.ensures, c.if-g-gt46.false)) c.implication-b.ensures (rw c.kind_at-g.ensures at c.join.ensures)
 
 pub sum-shape_of-words-in_default : goal.sum-shape_of-words-in_default
-sum-shape_of-words-in_default t c = 
+sum-shape_of-words-in_default t c =
     let sum_sofar : Linked sum_chain 8 c.args.tokens.now c.args.p c.args.n c.args.d c.args.words.now c.loop-a.words c.loop-a.k c.loop-a.a = c.loop-a.invariant c.args.words.now (chain_starts sum_chain 8 c.summand-a.ensures c.summand-a.auto.words) in
     (sum_sofar).long
 
 pub sum-returns-in_default : goal.sum-returns-in_default
-sum-returns-in_default t c = 
+sum-returns-in_default t c =
     let sum_sofar : Linked sum_chain 8 c.args.tokens.now c.args.p c.args.n c.args.d c.args.words.now c.loop-a.words c.loop-a.k c.loop-a.a = c.loop-a.invariant c.args.words.now (chain_starts sum_chain 8 c.summand-a.ensures c.summand-a.auto.words) in
     chain_stops sum_chain 8 (sum_sofar) c.in_default.is
 
 pub sum-shape_of-words-then-kind_at-ne51 : goal.sum-shape_of-words-then-kind_at-ne51
-sum-shape_of-words-then-kind_at-ne51 t c = 
+sum-shape_of-words-then-kind_at-ne51 t c =
     let sum_sofar : Linked sum_chain 8 c.args.tokens.now c.args.p c.args.n c.args.d c.args.words.now c.loop-a.words c.loop-a.k c.loop-a.a = c.loop-a.invariant c.args.words.now (chain_starts sum_chain 8 c.summand-a.ensures c.summand-a.auto.words) in
     (sum_sofar).long
 
 pub sum-returns-then-kind_at-ne51 : goal.sum-returns-then-kind_at-ne51
-sum-returns-then-kind_at-ne51 t c = 
+sum-returns-then-kind_at-ne51 t c =
     let sum_sofar : Linked sum_chain 8 c.args.tokens.now c.args.p c.args.n c.args.d c.args.words.now c.loop-a.words c.loop-a.k c.loop-a.a = c.loop-a.invariant c.args.words.now (chain_starts sum_chain 8 c.summand-a.ensures c.summand-a.auto.words) in
     chain_ends sum_chain 8 (sum_sofar) c.in-Read.is (λ e. c.if-kind_at-ne51.true (c.kind_at.ensures ∙ e))
 
 pub sum-overflow_add-q : goal.sum-overflow_add-q
-sum-overflow_add-q t c = 
+sum-overflow_add-q t c =
     let sum_sofar : Linked sum_chain 8 c.args.tokens.now c.args.p c.args.n c.args.d c.args.words.now c.loop-a.words c.loop-a.k c.loop-a.a = c.loop-a.invariant c.args.words.now (chain_starts sum_chain 8 c.summand-a.ensures c.summand-a.auto.words) in
     let o = chain_paid sum_chain 8 (sum_sofar) c.in-Read.is in omega arith
 
 pub sum-shape_of-words-then-k-eq0 : goal.sum-shape_of-words-then-k-eq0
-sum-shape_of-words-then-k-eq0 t c = 
+sum-shape_of-words-then-k-eq0 t c =
     let sum_sofar : Linked sum_chain 8 c.args.tokens.now c.args.p c.args.n c.args.d c.args.words.now c.loop-a.words c.loop-a.k c.loop-a.a = c.loop-a.invariant c.args.words.now (chain_starts sum_chain 8 c.summand-a.ensures c.summand-a.auto.words) in
     (sum_sofar).long
 
 pub sum-returns-then-k-eq0 : goal.sum-returns-then-k-eq0
-sum-returns-then-k-eq0 t c = 
+sum-returns-then-k-eq0 t c =
     let sum_sofar : Linked sum_chain 8 c.args.tokens.now c.args.p c.args.n c.args.d c.args.words.now c.loop-a.words c.loop-a.k c.loop-a.a = c.loop-a.invariant c.args.words.now (chain_starts sum_chain 8 c.summand-a.ensures c.summand-a.auto.words) in
     chain_ninth (sum_sofar) c.in-Read.is c.if-k-eq0.true (omega arith) (sym c.kind_at.ensures ∙ c.if-kind_at-ne51.false) c.ninth.ensures
 
 pub sum-overflow_add-q-in-loop-a : goal.sum-overflow_add-q-in-loop-a
-sum-overflow_add-q-in-loop-a t c = 
+sum-overflow_add-q-in-loop-a t c =
     let sum_sofar : Linked sum_chain 8 c.args.tokens.now c.args.p c.args.n c.args.d c.args.words.now c.loop-a.words c.loop-a.k c.loop-a.a = c.loop-a.invariant c.args.words.now (chain_starts sum_chain 8 c.summand-a.ensures c.summand-a.auto.words) in
     let o = chain_paid sum_chain 8 (sum_sofar) c.in-Read.is in omega arith
 
 pub sum-summand-b-requires : goal.sum-summand-b-requires
-sum-summand-b-requires t c = 
+sum-summand-b-requires t c =
     let sum_sofar : Linked sum_chain 8 c.args.tokens.now c.args.p c.args.n c.args.d c.args.words.now c.loop-a.words c.loop-a.k c.loop-a.a = c.loop-a.invariant c.args.words.now (chain_starts sum_chain 8 c.summand-a.ensures c.summand-a.auto.words) in
     let h = sum_sofar in let o = chain_paid sum_chain 8 h c.in-Read.is in let l = kind_within c.args.tokens.now c.in-Read.q (omega (arith, c.kind_at.ensures)) in omega (arith, h.long)
 
 pub sum-join-a-requires : goal.sum-join-a-requires
-sum-join-a-requires t c = 
+sum-join-a-requires t c =
     let sum_sofar : Linked sum_chain 8 c.args.tokens.now c.args.p c.args.n c.args.d c.args.words.now c.loop-a.words c.loop-a.k c.loop-a.a = c.loop-a.invariant c.args.words.now (chain_starts sum_chain 8 c.summand-a.ensures c.summand-a.auto.words) in
     let h = sum_sofar in let o = chain_paid sum_chain 8 h c.in-Read.is in let l = kind_within c.args.tokens.now c.in-Read.q (omega (arith, c.kind_at.ensures)) in join_room 26 0 c.summand-b.ensures (omega arith) (omega arith) (omega arith) (omega arith) (omega arith) (omega (arith, h.long))
 

@@ -20,7 +20,7 @@ pub returns-in-Wrong : goal.returns-in-Wrong
 returns-in-Wrong c = record { value = read_wrong _ _ _ _ c.loop-p.invariant.1 c.loop-p.invariant.3 _ (λ i. c.next_at.ensures.value i ∙ ap (word_of _ i) c.in-Wrong.is); within = subst (NextWithin _) c.in-Wrong.is c.next_at.ensures.within }
 
 pub returns-then-k-eq3 : goal.returns-then-k-eq3
-returns-then-k-eq3 c = 
+returns-then-k-eq3 c =
     let found : (i : ℕ) → next_word c.args.l.now i c.loop-p.j ≡ one (element_of c.args.l.now i c.in-Found.x) c.in-Found.m = λ i. c.next_at.ensures.value i ∙ ap (word_of c.args.l.now i) c.in-Found.is in
     let bounds : NextWithin (length c.args.l.now) (Found c.in-Found.x c.in-Found.m) = subst (NextWithin (length c.args.l.now)) c.in-Found.is c.next_at.ensures.within in
     record { value = read_many _ _ _ _ c.loop-p.invariant.1 c.loop-p.invariant.3 c.in-Found.x c.in-Found.m (found) c.if-k-eq3.true; within = (bounds).0.place }
@@ -29,7 +29,7 @@ pub with_item-f-requires : goal.with_item-f-requires
 with_item-f-requires c = omega (arith, c.loop-p.invariant.2.arity, c.if-k-eq3.false)
 
 pub overflow_add-j : goal.overflow_add-j
-overflow_add-j c = 
+overflow_add-j c =
     let bounds : NextWithin (length c.args.l.now) (Found c.in-Found.x c.in-Found.m) = subst (NextWithin (length c.args.l.now)) c.in-Found.is c.next_at.ensures.within in
     omega (arith, (bounds).1)
 
@@ -37,7 +37,7 @@ pub loop-p-smaller : goal.loop-p-smaller
 loop-p-smaller c = omega (arith, c.loop-p.invariant.2.arity, c.if-k-eq3.false, c.with_item-f.ensures)
 
 pub loop-p-preserved : goal.loop-p-preserved
-loop-p-preserved c = 
+loop-p-preserved c =
     let found : (i : ℕ) → next_word c.args.l.now i c.loop-p.j ≡ one (element_of c.args.l.now i c.in-Found.x) c.in-Found.m = λ i. c.next_at.ensures.value i ∙ ap (word_of c.args.l.now i) c.in-Found.is in
     let bounds : NextWithin (length c.args.l.now) (Found c.in-Found.x c.in-Found.m) = subst (NextWithin (length c.args.l.now)) c.in-Found.is c.next_at.ensures.within in
     let l = c.loop-p in

@@ -8,12 +8,11 @@ use Rattle.facts.proofs.read_facts.Goals as goal
 
 pub returns-in-Given : goal.returns-in-Given
 returns-in-Given c = let read-second = c.read_second in
-    alone_given c.args.facts.now c.args.query.now c.args.relations.now read-second.new.1.1.0 c.args.universe.now read-second.new.1.1.1.0 c.in-Given.c (subst (MeetsAfter c.args.facts.now c.args.query.now (record { relations = 0; elements = 0 }) c.args.relations.now read-second.new.1.1.0 c.args.universe.now read-second.new.1.1.1.0) c.in-Given.is read-second.ensures)
+    alone_given c.args.facts.now c.args.query.now c.args.relations.now read-second.new.relations c.args.universe.now read-second.new.universe c.in-Given.c (subst (MeetsAfter c.args.facts.now c.args.query.now (record { relations = 0; elements = 0 }) c.args.relations.now read-second.new.relations c.args.universe.now read-second.new.universe) c.in-Given.is read-second.ensures)
 
 pub returns-in-Refused : goal.returns-in-Refused
 returns-in-Refused c = let read-second = c.read_second in
-    let r : length read-second.new.1.1.0 ≡ length c.args.relations.now = omega arith in
-    let u : length read-second.new.1.1.1.0 ≡ length c.args.universe.now = omega arith in
-    let q = c.q-1 in
-    let m = subst (MeetsAfter c.args.facts.now c.args.query.now (record { relations = 0; elements = 0 }) c.args.relations.now read-second.new.1.1.0 c.args.universe.now read-second.new.1.1.1.0) q.given.1 read-second.ensures in
-    (alone_refused c.args.facts.now c.args.query.now c.args.relations.now read-second.new.1.1.0 c.args.universe.now read-second.new.1.1.1.0 q.given.0.0 m, c.clear.ensures ∙ ap (λ (k : ℕ). replicate k 0) r, c.clear-in-Refused.ensures ∙ ap (λ (k : ℕ). replicate k 0) u)
+    let r : length read-second.new.relations ≡ length c.args.relations.now = omega arith in
+    let u : length read-second.new.universe ≡ length c.args.universe.now = omega arith in
+    let m = subst (MeetsAfter c.args.facts.now c.args.query.now (record { relations = 0; elements = 0 }) c.args.relations.now read-second.new.relations c.args.universe.now read-second.new.universe) c.in-Refused.is read-second.ensures in
+    (alone_refused c.args.facts.now c.args.query.now c.args.relations.now read-second.new.relations c.args.universe.now read-second.new.universe c.in-Refused.q m, c.clear.ensures ∙ ap (λ (k : ℕ). replicate k 0) r, c.clear-in-Refused.ensures ∙ ap (λ (k : ℕ). replicate k 0) u)

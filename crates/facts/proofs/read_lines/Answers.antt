@@ -28,21 +28,21 @@ returns-in-Dot c = let l = c.loop-q in
     let run-end = c.run_end-e in
     let line-end = c.line_end-t in
     let take-line = c.take_line in
-    let t = (subst (Taken c.args.facts.now c.args.query.now (line_of c.args.facts.now l.a line-end.result) l.relations take-line.new.hints l.universe take-line.new.1.1.1.0 l.k) c.in-Dot.is take-line.ensures) in reading_end _ _ _ _ _ (subst (λ (ls : List Line). Reading c.args.facts.now c.args.query.now c.args.relations.now c.args.universe.now c.args.c ls l.relations l.universe l.k) (lines_dot c.args.facts.now l.a run-end.result l.invariant.0 run-end.ensures.value run-end.ensures.within.1 line-end.result line-end.ensures.value t.0) l.invariant.3) t.1 t.2
+    let t = (subst (Taken c.args.facts.now c.args.query.now (line_of c.args.facts.now l.a line-end.result) l.relations take-line.new.relations l.universe take-line.new.universe l.k) c.in-Dot.is take-line.ensures) in reading_end _ _ _ _ _ (subst (λ (ls : List Line). Reading c.args.facts.now c.args.query.now c.args.relations.now c.args.universe.now c.args.c ls l.relations l.universe l.k) (lines_dot c.args.facts.now l.a run-end.result l.invariant.0 run-end.ensures.value run-end.ensures.within.1 line-end.result line-end.ensures.value t.0) l.invariant.3) t.1 t.2
 
 pub returns-in-Fails : goal.returns-in-Fails
 returns-in-Fails c = let l = c.loop-q in
     let run-end = c.run_end-e in
     let line-end = c.line_end-t in
     let take-line = c.take_line in
-    let t = (subst (Taken c.args.facts.now c.args.query.now (line_of c.args.facts.now l.a line-end.result) l.relations take-line.new.hints l.universe take-line.new.1.1.1.0 l.k) c.in-Fails.is take-line.ensures) in fails_at c.args.facts.now l.a run-end.result line-end.result l.invariant.0 run-end.ensures.value run-end.ensures.within.1 line-end.ensures.value t.0 c.args.query.now c.args.relations.now c.args.universe.now c.args.c l.relations l.universe l.k l.invariant.3 take-line.new.hints take-line.new.1.1.1.0 c.in-Fails.q t.1
+    let t = (subst (Taken c.args.facts.now c.args.query.now (line_of c.args.facts.now l.a line-end.result) l.relations take-line.new.relations l.universe take-line.new.universe l.k) c.in-Fails.is take-line.ensures) in fails_at c.args.facts.now l.a run-end.result line-end.result l.invariant.0 run-end.ensures.value run-end.ensures.within.1 line-end.ensures.value t.0 c.args.query.now c.args.relations.now c.args.universe.now c.args.c l.relations l.universe l.k l.invariant.3 take-line.new.relations take-line.new.universe c.in-Fails.q t.1
 
 pub returns-then-e-facts : goal.returns-then-e-facts
 returns-then-e-facts c = let l = c.loop-q in
     let run-end = c.run_end-e in
     let line-end = c.line_end-t in
     let take-line = c.take_line in
-    let t = (subst (Taken c.args.facts.now c.args.query.now (line_of c.args.facts.now l.a line-end.result) l.relations take-line.new.hints l.universe take-line.new.1.1.1.0 l.k) c.in-More.is take-line.ensures) in reading_end _ _ _ _ _ (reading_more _ _ _ _ _ (subst (λ (ls : List Line). Reading c.args.facts.now c.args.query.now c.args.relations.now c.args.universe.now c.args.c ls l.relations l.universe l.k) (lines_last c.args.facts.now l.a run-end.result l.invariant.0 run-end.ensures.value run-end.ensures.within.1 line-end.result line-end.ensures.value t.0 c.if-e-facts.true) l.invariant.3) c.in-More.d t) refl refl
+    let t = (subst (Taken c.args.facts.now c.args.query.now (line_of c.args.facts.now l.a line-end.result) l.relations take-line.new.relations l.universe take-line.new.universe l.k) c.in-More.is take-line.ensures) in reading_end _ _ _ _ _ (reading_more _ _ _ _ _ (subst (λ (ls : List Line). Reading c.args.facts.now c.args.query.now c.args.relations.now c.args.universe.now c.args.c ls l.relations l.universe l.k) (lines_last c.args.facts.now l.a run-end.result l.invariant.0 run-end.ensures.value run-end.ensures.within.1 line-end.result line-end.ensures.value t.0 c.if-e-facts.true) l.invariant.3) c.in-More.d t) refl refl
 
 pub overflow_add-a : goal.overflow_add-a
 overflow_add-a c = omega (arith, c.run_end-e.ensures.within, c.if-e-facts.false)
@@ -55,4 +55,4 @@ loop-q-preserved c = let l = c.loop-q in
     let run-end = c.run_end-e in
     let line-end = c.line_end-t in
     let take-line = c.take_line in
-    let t = (subst (Taken c.args.facts.now c.args.query.now (line_of c.args.facts.now l.a line-end.result) l.relations take-line.new.hints l.universe take-line.new.1.1.1.0 l.k) c.in-More.is take-line.ensures) in let g = reading_more _ _ _ _ _ (subst (λ (ls : List Line). Reading c.args.facts.now c.args.query.now c.args.relations.now c.args.universe.now c.args.c ls l.relations l.universe l.k) (lines_more c.args.facts.now l.a run-end.result l.invariant.0 run-end.ensures.value run-end.ensures.within.1 line-end.result line-end.ensures.value t.0 (omega (arith, run-end.ensures.within, c.if-e-facts.false))) l.invariant.3) c.in-More.d t in (omega (arith, run-end.ensures.within, c.if-e-facts.false), held_length g.relations, held_length g.elements, g)
+    let t = (subst (Taken c.args.facts.now c.args.query.now (line_of c.args.facts.now l.a line-end.result) l.relations take-line.new.relations l.universe take-line.new.universe l.k) c.in-More.is take-line.ensures) in let g = reading_more _ _ _ _ _ (subst (λ (ls : List Line). Reading c.args.facts.now c.args.query.now c.args.relations.now c.args.universe.now c.args.c ls l.relations l.universe l.k) (lines_more c.args.facts.now l.a run-end.result l.invariant.0 run-end.ensures.value run-end.ensures.within.1 line-end.result line-end.ensures.value t.0 (omega (arith, run-end.ensures.within, c.if-e-facts.false))) l.invariant.3) c.in-More.d t in (omega (arith, run-end.ensures.within, c.if-e-facts.false), held_length g.relations, held_length g.elements, g)

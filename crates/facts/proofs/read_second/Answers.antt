@@ -13,4 +13,4 @@ returns-in-Wrong c = λ fs. subst (BytesRead c.args.facts.now) c.in-Wrong.is c.c
 
 pub returns-in-Right : goal.returns-in-Right
 returns-in-Right c = let read-lines = c.read_lines in
-    lines_decide c.args.facts.now c.args.query.now c.args.c c.args.relations.now read-lines.new.1.1.0 c.args.universe.now read-lines.new.1.1.1.0 (subst (BytesRead c.args.facts.now) c.in-Right.is c.check_bytes.ensures).1 read-lines.result read-lines.ensures
+    lines_decide c.args.facts.now c.args.query.now c.args.c c.args.relations.now read-lines.new.relations c.args.universe.now read-lines.new.universe (subst (BytesRead c.args.facts.now) c.in-Right.is c.check_bytes.ensures).1 read-lines.result read-lines.ensures

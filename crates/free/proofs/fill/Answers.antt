@@ -26,12 +26,12 @@ loop-k-smaller c = omega arith
 
 pub loop-k-preserved : goal.loop-k-preserved
 loop-k-preserved c = let l = c.loop-k in (
-      omega arith,
-      omega arith,
-      simp length-set l.invariant.2,
-      filled_more c.args.words.now _ l.fr _ l.k c.free_word-v.result (omega arith) c.free_word-v.ensures.0 l.invariant.3,
-      small_more c.args.words.now (digit_at c.args.f c.args.ids.now) l.fr 0 l.k c.free_word-v.result (omega arith) c.free_word-v.ensures.1 l.invariant.4,
-    )
+  omega arith,
+  omega arith,
+  simp length-set l.invariant.2,
+  filled_more c.args.words.now _ l.fr _ l.k c.free_word-v.result (omega arith) c.free_word-v.ensures.0 l.invariant.3,
+  small_more c.args.words.now (digit_at c.args.f c.args.ids.now) l.fr 0 l.k c.free_word-v.result (omega arith) c.free_word-v.ensures.1 l.invariant.4,
+)
 
 pub shape_of-fr : goal.shape_of-fr
 shape_of-fr c = omega arith

@@ -11,4 +11,4 @@ pub slice_bounds-know_facts-end-2 : goal.slice_bounds-know_facts-end-2
 slice_bounds-know_facts-end-2 c = sym (length-take-le _ c.args.relations.now (omega arith))
 
 pub returns : goal.returns
-returns c = let numbered = c.intern.ensures in record { kinds = resolved _ _ _ _ _ c.args.given _ (omega (arith, c.requires)) (omega (arith, c.requires)) (omega (arith, c.requires)) numbered _ _ _ _ _ refl c.know_facts.ensures c.use_all.ensures; numbers = inside _ _ _ c.intern.new.1.1.1.1.0 c.args.relations.now c.args.given _ (omega (arith, c.requires)) (omega (arith, c.requires)) (omega arith) numbered }
+returns c = let numbered = c.intern.ensures in record { kinds = resolved _ _ _ _ _ c.args.given _ (omega (arith, c.requires)) (omega (arith, c.requires)) (omega (arith, c.requires)) numbered _ _ _ _ _ refl c.know_facts.ensures c.use_all.ensures; numbers = inside _ _ _ c.intern.new.ids c.args.relations.now c.args.given _ (omega (arith, c.requires)) (omega (arith, c.requires)) (omega arith) numbered }

@@ -11,21 +11,21 @@ pub loop-at-init : goal.loop-at-init
 loop-at-init c = (omega arith, omega arith, refl, before_none)
 
 pub overflow_add-at : goal.overflow_add-at
-overflow_add-at c = 
+overflow_add-at c =
     let gap_past : (let at = c.loop-at.at in let n = c.in-Gap.n in (at < at + n) × (at + n ≤ length c.args.query.now)) = let f = c.segment_at in
-        past_gap c.args.query.now c.loop-at.at c.loop-at-test.true f.result f.ensures.value c.in-Gap.is in
+    past_gap c.args.query.now c.loop-at.at c.loop-at-test.true f.result f.ensures.value c.in-Gap.is in
     let w = gap_past in omega arith
 
 pub loop-at-smaller-in-Gap : goal.loop-at-smaller-in-Gap
-loop-at-smaller-in-Gap c = 
+loop-at-smaller-in-Gap c =
     let gap_past : (let at = c.loop-at.at in let n = c.in-Gap.n in (at < at + n) × (at + n ≤ length c.args.query.now)) = let f = c.segment_at in
-        past_gap c.args.query.now c.loop-at.at c.loop-at-test.true f.result f.ensures.value c.in-Gap.is in
+    past_gap c.args.query.now c.loop-at.at c.loop-at-test.true f.result f.ensures.value c.in-Gap.is in
     let w = gap_past in omega arith
 
 pub loop-at-preserved-in-Gap : goal.loop-at-preserved-in-Gap
-loop-at-preserved-in-Gap c = 
+loop-at-preserved-in-Gap c =
     let gap_past : (let at = c.loop-at.at in let n = c.in-Gap.n in (at < at + n) × (at + n ≤ length c.args.query.now)) = let f = c.segment_at in
-        past_gap c.args.query.now c.loop-at.at c.loop-at-test.true f.result f.ensures.value c.in-Gap.is in
+    past_gap c.args.query.now c.loop-at.at c.loop-at-test.true f.result f.ensures.value c.in-Gap.is in
     let l = c.loop-at in
     let f = c.segment_at in
     let w = gap_past in (
@@ -40,21 +40,21 @@ packed-requires c = let f = subst Small c.in-Lexeme.is c.segment_at.ensures.smal
     (f.kind, f.size, omega arith)
 
 pub overflow_add-at-in-Lexeme : goal.overflow_add-at-in-Lexeme
-overflow_add-at-in-Lexeme c = 
+overflow_add-at-in-Lexeme c =
     let token_past : (let at = c.loop-at.at in let n = c.in-Lexeme.n in (at < at + n) × (at + n ≤ length c.args.query.now)) = let f = c.segment_at in
-        past_token c.args.query.now c.loop-at.at c.loop-at-test.true f.result f.ensures.value c.in-Lexeme.is in
+    past_token c.args.query.now c.loop-at.at c.loop-at-test.true f.result f.ensures.value c.in-Lexeme.is in
     let w = token_past in omega arith
 
 pub loop-at-smaller : goal.loop-at-smaller
-loop-at-smaller c = 
+loop-at-smaller c =
     let token_past : (let at = c.loop-at.at in let n = c.in-Lexeme.n in (at < at + n) × (at + n ≤ length c.args.query.now)) = let f = c.segment_at in
-        past_token c.args.query.now c.loop-at.at c.loop-at-test.true f.result f.ensures.value c.in-Lexeme.is in
+    past_token c.args.query.now c.loop-at.at c.loop-at-test.true f.result f.ensures.value c.in-Lexeme.is in
     let w = token_past in omega arith
 
 pub loop-at-preserved : goal.loop-at-preserved
-loop-at-preserved c = 
+loop-at-preserved c =
     let token_past : (let at = c.loop-at.at in let n = c.in-Lexeme.n in (at < at + n) × (at + n ≤ length c.args.query.now)) = let f = c.segment_at in
-        past_token c.args.query.now c.loop-at.at c.loop-at-test.true f.result f.ensures.value c.in-Lexeme.is in
+    past_token c.args.query.now c.loop-at.at c.loop-at-test.true f.result f.ensures.value c.in-Lexeme.is in
     let l = c.loop-at in
     let f = c.segment_at in
     let p = c.put.ensures in

@@ -24,12 +24,17 @@ pub returns-in-Reserved : goal.returns-in-Reserved
 returns-in-Reserved c = let a = c.args in
     let e = c.run_end-end in
     let w = c.reserved_word in
-    let k = c.k-1.given in
-    let h = subst (λ (w : Word). index_of w < 26) k.1 w.ensures.index in record { value = word_reserved (drop a.at a.text.now) (e.result - a.at) (omega (arith, e.ensures.value)) c.if-n-gt32.false k.0.0 h
-          (sym c.same.ensures ∙ c.if-same.false) (λ i. w.ensures.terminal i ∙ rw k.1); small = reserved_packs k.0.0 (e.result - a.at) h c.if-n-gt32.false }
+    let h = subst (λ (w : Word). index_of w < 26) c.in-Reserved.is w.ensures.index in record {
+      value = word_reserved (drop a.at a.text.now) (e.result - a.at) (omega (arith, e.ensures.value)) c.if-n-gt32.false c.in-Reserved.k h
+          (sym c.same.ensures ∙ c.if-same.false) (λ i. w.ensures.terminal i ∙ rw c.in-Reserved.is);
+      small = reserved_packs c.in-Reserved.k (e.result - a.at) h c.if-n-gt32.false;
+    }
 
 pub returns-in-Identifier : goal.returns-in-Identifier
 returns-in-Identifier c = let a = c.args in
     let e = c.run_end-end in
-    let w = c.reserved_word in record { value = word_name (drop a.at a.text.now) (e.result - a.at) (omega (arith, e.ensures.value)) c.if-n-gt32.false
-          (sym c.same.ensures ∙ c.if-same.false) (λ i. w.ensures.terminal i ∙ rw c.in-Identifier.is); small = name_packs (e.result - a.at) c.if-n-gt32.false }
+    let w = c.reserved_word in record {
+      value = word_name (drop a.at a.text.now) (e.result - a.at) (omega (arith, e.ensures.value)) c.if-n-gt32.false
+          (sym c.same.ensures ∙ c.if-same.false) (λ i. w.ensures.terminal i ∙ rw c.in-Identifier.is);
+      small = name_packs (e.result - a.at) c.if-n-gt32.false;
+    }

@@ -17,6 +17,6 @@ returns c = let a = c.args in
     let s = a.store.now in
     let zeros = c.clear.new.words in
     let z = c.clear.ensures in
-    let words = c.load_words.new.1.1.1.1.1.1.0 in
+    let words = c.load_words.new.words in
     let f = c.load_words.ensures in
     let h = c.requires.0 in record { value = λ w r n. whole_store s zeros a.needed h z w words (f.value w r (first_zero s zeros a.needed h z ∙ ap (λ (k : ℕ). replicate k 0) n)) n; later = later_words s zeros a.needed h z words f.size; size = same_words s zeros a.needed h z words f.size }

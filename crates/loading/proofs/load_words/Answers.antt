@@ -22,20 +22,20 @@ returns-in-NoMore c = let a = c.args in
     record { value = λ w r e. loaded_all w L.words (subst (λ (gs : List AFact). Loaded w gs L.words) none (L.invariant.1 w r e)); size = L.invariant.0 }
 
 pub load_fact-requires : goal.load_fact-requires
-load_fact-requires c = 
+load_fact-requires c =
     let next_is : NextIs c.args.facts.now c.loop-a.at (Fact c.in-Fact.a c.in-Fact.f c.in-Fact.next) = subst (NextIs c.args.facts.now c.loop-a.at) c.in-Fact.is c.next_fact.ensures in
     let h = next_is in
     let p = c.requires in
     (omega (arith, h.3, p), all_wider _ _ _ (omega (arith, p)) h.4)
 
 pub loop-a-smaller : goal.loop-a-smaller
-loop-a-smaller c = 
+loop-a-smaller c =
     let next_is : NextIs c.args.facts.now c.loop-a.at (Fact c.in-Fact.a c.in-Fact.f c.in-Fact.next) = subst (NextIs c.args.facts.now c.loop-a.at) c.in-Fact.is c.next_fact.ensures in
     let h = next_is in
     omega (arith, h.1, h.2, h.3)
 
 pub loop-a-preserved : goal.loop-a-preserved
-loop-a-preserved c = 
+loop-a-preserved c =
     let next_is : NextIs c.args.facts.now c.loop-a.at (Fact c.in-Fact.a c.in-Fact.f c.in-Fact.next) = subst (NextIs c.args.facts.now c.loop-a.at) c.in-Fact.is c.next_fact.ensures in
     let L = c.loop-a in
     let h = next_is in

@@ -53,10 +53,10 @@ pub branch_rows-overflow_sub-n-3 : goal.branch_rows-overflow_sub-n-3
 branch_rows-overflow_sub-n-3 t c = omega (arith, c.if-n-eq0.false)
 
 pub branch_rows-branch_rows-requires : goal.branch_rows-branch_rows-requires
-branch_rows-branch_rows-requires t c = (omega (arith, c.if-n-eq0.false), (c.requires.0, let h : length c.piece_rows.new.1.1.1.1.0 ≡ length c.args.rows.now = c.piece_rows.ensures.long in omega (arith, h, c.requires.1)))
+branch_rows-branch_rows-requires t c = (omega (arith, c.if-n-eq0.false), (c.requires.0, let h : length c.piece_rows.new.rows ≡ length c.args.rows.now = c.piece_rows.ensures.long in omega (arith, h, c.requires.1)))
 
 pub branch_rows-returns : goal.branch_rows-returns
-branch_rows-returns t c = led_pieces c.args.s.now c.args.n c.args.at c.if-n-eq0.false c.in-At.i c.piece_rows.new.1.1.1.1.0 (sym c.in-At.is ∙ c.piece_end.ensures) (sym c.ends_branch.ensures ∙ c.if-ends_branch.false) c.piece_rows.ensures c.branch_rows.ensures
+branch_rows-returns t c = led_pieces c.args.s.now c.args.n c.args.at c.if-n-eq0.false c.in-At.i c.piece_rows.new.rows (sym c.in-At.is ∙ c.piece_end.ensures) (sym c.ends_branch.ensures ∙ c.if-ends_branch.false) c.piece_rows.ensures c.branch_rows.ensures
 
 pub branches_rows-returns-then-n-eq0 : goal.branches_rows-returns-then-n-eq0
 branches_rows-returns-then-n-eq0 t c = led_depth c.args.s.now c.args.n c.args.at branches c.if-n-eq0.true
@@ -98,18 +98,18 @@ pub branches_rows-branches_rows-requires : goal.branches_rows-branches_rows-requ
 branches_rows-branches_rows-requires t c = (omega (arith, c.if-n-eq0.false), (c.requires.0, prefix_short _ _ 64 c.requires.1))
 
 pub branches_rows-slice_bounds-other-end-3 : goal.branches_rows-slice_bounds-other-end-3
-branches_rows-slice_bounds-other-end-3 t c = append_long (length c.args.rows.now) c.branches_rows.new.1.1.1.1.0 _ (c.branches_rows.ensures.long ∙ ap length (take_at c.copy.new.rows _ (length c.args.rows.now) (c.copy.ensures.long ∙ sym (prefix_long (length c.args.rows.now) _ c.requires.1))) ∙ (c.copy.ensures.long ∙ sym (prefix_long (length c.args.rows.now) _ c.requires.1)))
+branches_rows-slice_bounds-other-end-3 t c = append_long (length c.args.rows.now) c.branches_rows.new.rows _ (c.branches_rows.ensures.long ∙ ap length (take_at c.copy.new.rows _ (length c.args.rows.now) (c.copy.ensures.long ∙ sym (prefix_long (length c.args.rows.now) _ c.requires.1))) ∙ (c.copy.ensures.long ∙ sym (prefix_long (length c.args.rows.now) _ c.requires.1)))
 
 pub branches_rows-slice_bounds-unite-end : goal.branches_rows-slice_bounds-unite-end
-branches_rows-slice_bounds-unite-end t c = prefix_long (length c.args.rows.now) _ (append_long (length c.args.rows.now) c.branches_rows.new.1.1.1.1.0 _ (c.branches_rows.ensures.long ∙ ap length (take_at c.copy.new.rows _ (length c.args.rows.now) (c.copy.ensures.long ∙ sym (prefix_long (length c.args.rows.now) _ c.requires.1))) ∙ (c.copy.ensures.long ∙ sym (prefix_long (length c.args.rows.now) _ c.requires.1))))
+branches_rows-slice_bounds-unite-end t c = prefix_long (length c.args.rows.now) _ (append_long (length c.args.rows.now) c.branches_rows.new.rows _ (c.branches_rows.ensures.long ∙ ap length (take_at c.copy.new.rows _ (length c.args.rows.now) (c.copy.ensures.long ∙ sym (prefix_long (length c.args.rows.now) _ c.requires.1))) ∙ (c.copy.ensures.long ∙ sym (prefix_long (length c.args.rows.now) _ c.requires.1))))
 
 pub branches_rows-unite-requires : goal.branches_rows-unite-requires
-branches_rows-unite-requires t c = c.branch_rows-2.ensures.long ∙ prefix_long (length c.args.rows.now) _ (append_long (length c.args.rows.now) c.branches_rows.new.1.1.1.1.0 _ (c.branches_rows.ensures.long ∙ ap length (take_at c.copy.new.rows _ (length c.args.rows.now) (c.copy.ensures.long ∙ sym (prefix_long (length c.args.rows.now) _ c.requires.1))) ∙ (c.copy.ensures.long ∙ sym (prefix_long (length c.args.rows.now) _ c.requires.1))))
+branches_rows-unite-requires t c = c.branch_rows-2.ensures.long ∙ prefix_long (length c.args.rows.now) _ (append_long (length c.args.rows.now) c.branches_rows.new.rows _ (c.branches_rows.ensures.long ∙ ap length (take_at c.copy.new.rows _ (length c.args.rows.now) (c.copy.ensures.long ∙ sym (prefix_long (length c.args.rows.now) _ c.requires.1))) ∙ (c.copy.ensures.long ∙ sym (prefix_long (length c.args.rows.now) _ c.requires.1))))
 
 pub branches_rows-returns : goal.branches_rows-returns
-branches_rows-returns t c = led_branches c.args.s.now c.args.n c.args.at c.if-n-eq0.false c.in-At.i c.branch_rows-2.new.1.1.1.1.0 c.copy.new.rows c.branches_rows.new.1.1.1.1.0 _ (sym c.in-At.is ∙ c.branch_end.ensures) (sym c.byte_at.ensures ∙ c.if-byte_at-ne124.false) c.branch_rows-2.ensures c.copy.ensures (sym (prefix_long _ _ c.requires.1))
-    (subst (λ (l : List ℕ). Led (phrase (c.args.n - 1) branches (drop (c.in-At.i + 1) c.args.s.now)) c.args.e.now l c.branches_rows.new.1.1.1.1.0) (take_at c.copy.new.rows _ (length c.args.rows.now) (c.copy.ensures.long ∙ sym (prefix_long (length c.args.rows.now) _ c.requires.1))) c.branches_rows.ensures)
-    (subst (λ (l : List ℕ). Each (λ (k a r : ℕ). r ≡ bit_or a (get_or l k 0)) c.branch_rows-2.new.1.1.1.1.0 c.unite.new.rows) (take_at c.branches_rows.new.1.1.1.1.0 _ (length c.args.rows.now) (c.branches_rows.ensures.long ∙ ap length (take_at c.copy.new.rows _ (length c.args.rows.now) (c.copy.ensures.long ∙ sym (prefix_long (length c.args.rows.now) _ c.requires.1))) ∙ (c.copy.ensures.long ∙ sym (prefix_long (length c.args.rows.now) _ c.requires.1)))) c.unite.ensures)
+branches_rows-returns t c = led_branches c.args.s.now c.args.n c.args.at c.if-n-eq0.false c.in-At.i c.branch_rows-2.new.rows c.copy.new.rows c.branches_rows.new.rows _ (sym c.in-At.is ∙ c.branch_end.ensures) (sym c.byte_at.ensures ∙ c.if-byte_at-ne124.false) c.branch_rows-2.ensures c.copy.ensures (sym (prefix_long _ _ c.requires.1))
+    (subst (λ (l : List ℕ). Led (phrase (c.args.n - 1) branches (drop (c.in-At.i + 1) c.args.s.now)) c.args.e.now l c.branches_rows.new.rows) (take_at c.copy.new.rows _ (length c.args.rows.now) (c.copy.ensures.long ∙ sym (prefix_long (length c.args.rows.now) _ c.requires.1))) c.branches_rows.ensures)
+    (subst (λ (l : List ℕ). Each (λ (k a r : ℕ). r ≡ bit_or a (get_or l k 0)) c.branch_rows-2.new.rows c.unite.new.rows) (take_at c.branches_rows.new.rows _ (length c.args.rows.now) (c.branches_rows.ensures.long ∙ ap length (take_at c.copy.new.rows _ (length c.args.rows.now) (c.copy.ensures.long ∙ sym (prefix_long (length c.args.rows.now) _ c.requires.1))) ∙ (c.copy.ensures.long ∙ sym (prefix_long (length c.args.rows.now) _ c.requires.1)))) c.unite.ensures)
 
 pub piece_rows-returns-then-n-eq0 : goal.piece_rows-returns-then-n-eq0
 piece_rows-returns-then-n-eq0 t c = led_depth c.args.s.now c.args.n c.args.at piece c.if-n-eq0.true
@@ -154,15 +154,15 @@ pub piece_rows-atom_rows-requires-2 : goal.piece_rows-atom_rows-requires-2
 piece_rows-atom_rows-requires-2 t c = (omega (arith, c.if-n-eq0.false), (c.requires.0, prefix_short (length c.args.e.now + 1) _ 64 (let h = c.requires.0 in omega (arith, h))))
 
 pub piece_rows-slice_bounds-table-end-3 : goal.piece_rows-slice_bounds-table-end-3
-piece_rows-slice_bounds-table-end-3 t c = append_long (length c.args.e.now + 1) c.atom_rows-2.new.1.1.1.1.0 _ (c.atom_rows-2.ensures.long ∙ ap length (take_at c.singles.new.rows _ (length c.args.e.now + 1) (c.singles.ensures.long ∙ sym (prefix_long (length c.args.e.now + 1) _ (let h = c.requires.0 in omega (arith, h))))) ∙ (c.singles.ensures.long ∙ sym (prefix_long (length c.args.e.now + 1) _ (let h = c.requires.0 in omega (arith, h)))))
+piece_rows-slice_bounds-table-end-3 t c = append_long (length c.args.e.now + 1) c.atom_rows-2.new.rows _ (c.atom_rows-2.ensures.long ∙ ap length (take_at c.singles.new.rows _ (length c.args.e.now + 1) (c.singles.ensures.long ∙ sym (prefix_long (length c.args.e.now + 1) _ (let h = c.requires.0 in omega (arith, h))))) ∙ (c.singles.ensures.long ∙ sym (prefix_long (length c.args.e.now + 1) _ (let h = c.requires.0 in omega (arith, h)))))
 
 pub piece_rows-slice_bounds-turn-end : goal.piece_rows-slice_bounds-turn-end
-piece_rows-slice_bounds-turn-end t c = prefix_long (length c.args.e.now + 1) _ (append_long (length c.args.e.now + 1) c.atom_rows-2.new.1.1.1.1.0 _ (c.atom_rows-2.ensures.long ∙ ap length (take_at c.singles.new.rows _ (length c.args.e.now + 1) (c.singles.ensures.long ∙ sym (prefix_long (length c.args.e.now + 1) _ (let h = c.requires.0 in omega (arith, h))))) ∙ (c.singles.ensures.long ∙ sym (prefix_long (length c.args.e.now + 1) _ (let h = c.requires.0 in omega (arith, h))))))
+piece_rows-slice_bounds-turn-end t c = prefix_long (length c.args.e.now + 1) _ (append_long (length c.args.e.now + 1) c.atom_rows-2.new.rows _ (c.atom_rows-2.ensures.long ∙ ap length (take_at c.singles.new.rows _ (length c.args.e.now + 1) (c.singles.ensures.long ∙ sym (prefix_long (length c.args.e.now + 1) _ (let h = c.requires.0 in omega (arith, h))))) ∙ (c.singles.ensures.long ∙ sym (prefix_long (length c.args.e.now + 1) _ (let h = c.requires.0 in omega (arith, h))))))
 
 pub piece_rows-returns : goal.piece_rows-returns
-piece_rows-returns t c = led_turns c.args.s.now c.args.n c.args.at c.if-n-eq0.false (λ q. c.if-b-eq94.false (c.byte_at-b.ensures ∙ q)) (λ q. c.if-b-eq36.false (c.byte_at-b.ensures ∙ q)) c.in-At.i c.sign_at-sign.result.least c.sign_at-sign.result.further (sym c.in-At.is ∙ c.atom_end.ensures) c.sign_at-sign.ensures.0 c.sign_at-sign.ensures.1 c.atom_rows-2.new.1.1.1.1.0 c.singles.new.rows _ c.requires.0 (sym (prefix_long (length c.args.e.now + 1) _ (let h = c.requires.0 in omega (arith, h)))) c.singles.ensures
-    (subst (λ (l : List ℕ). Led (phrase (c.args.n - 1) atom (drop c.args.at c.args.s.now)) c.args.e.now l c.atom_rows-2.new.1.1.1.1.0) (take_at c.singles.new.rows _ (length c.args.e.now + 1) (c.singles.ensures.long ∙ sym (prefix_long (length c.args.e.now + 1) _ (let h = c.requires.0 in omega (arith, h))))) c.atom_rows-2.ensures)
-    (subst (λ (l : List ℕ). Each (λ (m a r : ℕ). (o : Reading) (e : Text) → Turn o e l → Turns o e c.sign_at-sign.result.least c.sign_at-sign.result.further a r) c.args.rows.now c.turn.new.rows) (take_at c.atom_rows-2.new.1.1.1.1.0 _ (length c.args.e.now + 1) (c.atom_rows-2.ensures.long ∙ ap length (take_at c.singles.new.rows _ (length c.args.e.now + 1) (c.singles.ensures.long ∙ sym (prefix_long (length c.args.e.now + 1) _ (let h = c.requires.0 in omega (arith, h))))) ∙ (c.singles.ensures.long ∙ sym (prefix_long (length c.args.e.now + 1) _ (let h = c.requires.0 in omega (arith, h)))))) c.turn.ensures)
+piece_rows-returns t c = led_turns c.args.s.now c.args.n c.args.at c.if-n-eq0.false (λ q. c.if-b-eq94.false (c.byte_at-b.ensures ∙ q)) (λ q. c.if-b-eq36.false (c.byte_at-b.ensures ∙ q)) c.in-At.i c.sign_at-sign.result.least c.sign_at-sign.result.further (sym c.in-At.is ∙ c.atom_end.ensures) c.sign_at-sign.ensures.0 c.sign_at-sign.ensures.1 c.atom_rows-2.new.rows c.singles.new.rows _ c.requires.0 (sym (prefix_long (length c.args.e.now + 1) _ (let h = c.requires.0 in omega (arith, h)))) c.singles.ensures
+    (subst (λ (l : List ℕ). Led (phrase (c.args.n - 1) atom (drop c.args.at c.args.s.now)) c.args.e.now l c.atom_rows-2.new.rows) (take_at c.singles.new.rows _ (length c.args.e.now + 1) (c.singles.ensures.long ∙ sym (prefix_long (length c.args.e.now + 1) _ (let h = c.requires.0 in omega (arith, h))))) c.atom_rows-2.ensures)
+    (subst (λ (l : List ℕ). Each (λ (m a r : ℕ). (o : Reading) (e : Text) → Turn o e l → Turns o e c.sign_at-sign.result.least c.sign_at-sign.result.further a r) c.args.rows.now c.turn.new.rows) (take_at c.atom_rows-2.new.rows _ (length c.args.e.now + 1) (c.atom_rows-2.ensures.long ∙ ap length (take_at c.singles.new.rows _ (length c.args.e.now + 1) (c.singles.ensures.long ∙ sym (prefix_long (length c.args.e.now + 1) _ (let h = c.requires.0 in omega (arith, h))))) ∙ (c.singles.ensures.long ∙ sym (prefix_long (length c.args.e.now + 1) _ (let h = c.requires.0 in omega (arith, h)))))) c.turn.ensures)
 
 pub branches_rows-slice_bounds-other-end : goal.branches_rows-slice_bounds-other-end
 branches_rows-slice_bounds-other-end t c = c.requires.1

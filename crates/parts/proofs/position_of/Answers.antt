@@ -12,8 +12,11 @@ pub loop-k-init : goal.loop-k-init
 loop-k-init c = (omega arith, sym (zero-add _))
 
 pub returns-then-same : goal.returns-then-same
-returns-then-same c = record { value = sym (c.loop-k.invariant.1
-      ∙ run_stop (differs _ _ _) _ _ c.loop-k-test.true (ap not (sym (c.same.ensures ∙ ap (same _) c.text_of.ensures) ∙ c.if-same.true))); within = c.loop-k.invariant.0 }
+returns-then-same c = record {
+  value = sym (c.loop-k.invariant.1
+      ∙ run_stop (differs _ _ _) _ _ c.loop-k-test.true (ap not (sym (c.same.ensures ∙ ap (same _) c.text_of.ensures) ∙ c.if-same.true)));
+  within = c.loop-k.invariant.0;
+}
 
 pub loop-k-preserved : goal.loop-k-preserved
 loop-k-preserved c = (

@@ -13,10 +13,10 @@ returns-then-s-i-eq93 c = record { value = sym (c.loop-i.invariant.2 ∙ close_h
 
 pub loop-i-preserved : goal.loop-i-preserved
 loop-i-preserved c = (
-      omega arith,
-      omega arith,
-      c.loop-i.invariant.2 ∙ close_later _ c.loop-i.i c.loop-i-test.true c.if-s-i-eq93.false,
-    )
+  omega arith,
+  omega arith,
+  c.loop-i.invariant.2 ∙ close_later _ c.loop-i.i c.loop-i-test.true c.if-s-i-eq93.false,
+)
 
 pub returns : goal.returns
 returns c = record { value = sym (c.loop-i.invariant.2 ∙ close_none _ c.loop-i.i c.loop-i-test.false); within = (search rules, search rules) }

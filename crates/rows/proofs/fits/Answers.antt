@@ -13,14 +13,12 @@ returns-in-24 c = let a = c.args in
 
 pub returns-in-29 : goal.returns-in-29
 returns-in-29 c = let a = c.args in
-    fits_item (at a.fr.now) a.j a.w _ _ c.count-in-29.ensures c.if-this-lt29.false c.if-this-lt31.true c.word_before.ensures
+    fits_item (at a.fr.now) a.j a.w _ _ c.count-in-29.ensures (omega arith) (omega arith) c.word_before.ensures
 
 pub returns-in_default : goal.returns-in_default
 returns-in_default c = let z = c.in_default.in_default-own.rest in
-    let h = c.if-this-lt29.true in
     fits_other _ _ _ z.0.1 z.1 (λ e. omega arith) (λ e. omega arith)
 
 pub returns-in_default-2 : goal.returns-in_default-2
 returns-in_default-2 c = let z = c.in_default.in_default-own.rest in
-    let h = c.if-this-lt31.false in
     fits_other _ _ _ z.0.1 z.1 (λ e. omega arith) (λ e. omega arith)

@@ -35,7 +35,7 @@ pub overflow_add-result-then-k-eq7 : goal.overflow_add-result-then-k-eq7
 overflow_add-result-then-k-eq7 c = let u = listed_of c.list-a.ensures c.in-Read.is in omega arith
 
 pub shape_of-words-then-k-eq7 : goal.shape_of-words-then-k-eq7
-shape_of-words-then-k-eq7 c = c.assertion-l.auto.words ∙ length-set c.list-a.new.1.0 c.args.n c.pack.result ∙ c.list-a.auto.words
+shape_of-words-then-k-eq7 c = c.assertion-l.auto.words ∙ length-set c.list-a.new.words c.args.n c.pack.result ∙ c.list-a.auto.words
 
 pub returns-then-k-eq7 : goal.returns-then-k-eq7
 returns-then-k-eq7 c = assign_alone _ _ _ _ _ c.requires.0 (omega arith) (sym c.kind_at.ensures ∙ c.if-kind_at-ne0.false) c.list-a.ensures c.in-Read.is c.pack.ensures (sym c.kind_at-k.ensures ∙ c.if-k-eq7.true) c.assertion-l.ensures.0 c.assertion-l.ensures.1
@@ -50,10 +50,10 @@ pub comparison-b-requires : goal.comparison-b-requires
 comparison-b-requires c = let u = listed_of c.list-a.ensures c.in-Read.is in let l = kind_within c.args.tokens.now c.in-Read.q (omega (arith, c.kind_at-k.ensures, c.if-k-ne8.false)) in simp length-set (omega arith)
 
 pub finish-requires : goal.finish-requires
-finish-requires c = let u = listed_of c.list-a.ensures c.in-Read.is in let l = kind_within c.args.tokens.now c.in-Read.q (omega (arith, c.kind_at-k.ensures, c.if-k-ne8.false)) in finish_room c.requires.1.0 (omega arith) (omega arith) (omega arith) c.comparison-b.ensures (omega arith) (omega (arith, c.comparison-b.auto.words, length-set c.list-a.new.1.0 c.args.n c.pack.result, c.list-a.auto.words))
+finish-requires c = let u = listed_of c.list-a.ensures c.in-Read.is in let l = kind_within c.args.tokens.now c.in-Read.q (omega (arith, c.kind_at-k.ensures, c.if-k-ne8.false)) in finish_room c.requires.1.0 (omega arith) (omega arith) (omega arith) c.comparison-b.ensures (omega arith) (omega (arith, c.comparison-b.auto.words, length-set c.list-a.new.words c.args.n c.pack.result, c.list-a.auto.words))
 
 pub shape_of-words : goal.shape_of-words
-shape_of-words c = c.finish.auto.words ∙ c.comparison-b.auto.words ∙ length-set c.list-a.new.1.0 c.args.n c.pack.result ∙ c.list-a.auto.words
+shape_of-words c = c.finish.auto.words ∙ c.comparison-b.auto.words ∙ length-set c.list-a.new.words c.args.n c.pack.result ∙ c.list-a.auto.words
 
 pub returns : goal.returns
 returns c = assign_ends _ _ _ _ _ c.requires.0 c.requires.1.1.nest (sym c.kind_at.ensures ∙ c.if-kind_at-ne0.false) c.list-a.ensures c.in-Read.is c.pack.ensures (sym c.kind_at-k.ensures ∙ c.if-k-ne8.false) c.comparison-b.ensures c.finish.ensures

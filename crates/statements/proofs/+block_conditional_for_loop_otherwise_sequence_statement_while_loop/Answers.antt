@@ -90,32 +90,32 @@ pub sequence-statement-a-requires : goal.sequence-statement-a-requires
 sequence-statement-a-requires t c = (omega arith, (c.requires.0, omega arith))
 
 pub sequence-shape_of-words-in_default : goal.sequence-shape_of-words-in_default
-sequence-shape_of-words-in_default t c = 
+sequence-shape_of-words-in_default t c =
     let sequence_sofar : IsSofar c.args.tokens.now c.args.p c.args.n c.args.d c.args.words.now c.loop-a.words c.loop-a.a = c.loop-a.invariant c.args.words.now (sequence_starts c.requires.1.nest c.requires.1.place c.statement-a.ensures c.statement-a.auto.words) in
     (sequence_sofar).long
 
 pub sequence-returns-in_default : goal.sequence-returns-in_default
-sequence-returns-in_default t c = 
+sequence-returns-in_default t c =
     let sequence_sofar : IsSofar c.args.tokens.now c.args.p c.args.n c.args.d c.args.words.now c.loop-a.words c.loop-a.a = c.loop-a.invariant c.args.words.now (sequence_starts c.requires.1.nest c.requires.1.place c.statement-a.ensures c.statement-a.auto.words) in
     let h = sequence_sofar in sequence_stops c.requires.1.nest h c.in_default.is
 
 pub sequence-shape_of-words-then-not-begins : goal.sequence-shape_of-words-then-not-begins
-sequence-shape_of-words-then-not-begins t c = 
+sequence-shape_of-words-then-not-begins t c =
     let sequence_sofar : IsSofar c.args.tokens.now c.args.p c.args.n c.args.d c.args.words.now c.loop-a.words c.loop-a.a = c.loop-a.invariant c.args.words.now (sequence_starts c.requires.1.nest c.requires.1.place c.statement-a.ensures c.statement-a.auto.words) in
     (sequence_sofar).long
 
 pub sequence-returns-then-not-begins : goal.sequence-returns-then-not-begins
-sequence-returns-then-not-begins t c = 
+sequence-returns-then-not-begins t c =
     let sequence_sofar : IsSofar c.args.tokens.now c.args.p c.args.n c.args.d c.args.words.now c.loop-a.words c.loop-a.a = c.loop-a.invariant c.args.words.now (sequence_starts c.requires.1.nest c.requires.1.place c.statement-a.ensures c.statement-a.auto.words) in
     let h = sequence_sofar in sequence_ends c.requires.1.nest h c.in-Read.is (begins_not c.begins.result c.if-not-begins.true-raw c.begins.ensures)
 
 pub sequence-statement-a-requires-in-loop-a : goal.sequence-statement-a-requires-in-loop-a
-sequence-statement-a-requires-in-loop-a t c = 
+sequence-statement-a-requires-in-loop-a t c =
     let sequence_sofar : IsSofar c.args.tokens.now c.args.p c.args.n c.args.d c.args.words.now c.loop-a.words c.loop-a.a = c.loop-a.invariant c.args.words.now (sequence_starts c.requires.1.nest c.requires.1.place c.statement-a.ensures c.statement-a.auto.words) in
     let h = sequence_sofar in let o = sequence_span c.requires.1.nest h c.in-Read.is in (omega arith, (c.requires.0, omega (arith, h.long)))
 
 pub sequence-loop-a-smaller : goal.sequence-loop-a-smaller
-sequence-loop-a-smaller t c = 
+sequence-loop-a-smaller t c =
     let sequence_sofar : IsSofar c.args.tokens.now c.args.p c.args.n c.args.d c.args.words.now c.loop-a.words c.loop-a.a = c.loop-a.invariant c.args.words.now (sequence_starts c.requires.1.nest c.requires.1.place c.statement-a.ensures c.statement-a.auto.words) in
     let h = sequence_sofar in let o = sequence_span c.requires.1.nest h c.in-Read.is in sequence_less c.requires.1.nest o.within c.in-Read.is c.statement-a-in-loop-a.ensures
 

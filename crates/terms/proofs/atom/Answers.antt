@@ -14,7 +14,7 @@ pub truth-requires-in-40 : goal.truth-requires-in-40
 truth-requires-in-40 c = (false_here (sym c.kind_at.ensures ∙ c.in-40.is), c.requires.1)
 
 pub sign_before-requires : goal.sign_before-requires
-sign_before-requires c = (sign_here _ _ c.kind_at.ensures c.if-this-lt39.false c.in-41-to-46.in_default-own.rest.0.0.0.1 c.in-41-to-46.in_default-own.rest.0.0.1 c.if-this-lt47.true, c.requires.1)
+sign_before-requires c = (sign_here _ _ c.kind_at.ensures (omega arith) c.in-41-to-46.in_default-own.rest.0.0.0.1 c.in-41-to-46.in_default-own.rest.0.0.1 (omega arith), c.requires.1)
 
 pub returns-in_default : goal.returns-in_default
 returns-in_default c = no_atom _ _ _ _ (omega arith) c.requires.0 (λ e. c.in_default.in_default-own.rest.0.0.0.0.1 (inl (c.kind_at.ensures ∙ e))) (λ e. omega (arith, c.kind_at.ensures)) (λ e. omega (arith, c.kind_at.ensures)) (λ l h. omega (arith, c.kind_at.ensures)) (λ e. omega (arith, c.kind_at.ensures)) (λ e. omega (arith, c.kind_at.ensures)) (λ e. omega (arith, c.kind_at.ensures))

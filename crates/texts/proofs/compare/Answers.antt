@@ -39,11 +39,11 @@ loop-i-smaller c = omega arith
 
 pub loop-i-preserved : goal.loop-i-preserved
 loop-i-preserved c = (
-      omega arith,
-      omega arith,
-      c.loop-i.invariant.2
-          ∙ order_equal _ _ c.loop-i.i c.loop-i-test.true c.if-b-i.false (omega (arith, c.if-a-i.false, c.if-b-i-2.false)),
-    )
+  omega arith,
+  omega arith,
+  c.loop-i.invariant.2
+      ∙ order_equal _ _ c.loop-i.i c.loop-i-test.true c.if-b-i.false (omega (arith, c.if-a-i.false, c.if-b-i-2.false)),
+)
 
 pub returns-then-i-b : goal.returns-then-i-b
 returns-then-i-b c = sym (c.loop-i.invariant.2 ∙ order_before _ _ c.loop-i.i c.loop-i-test.false (omega (arith, c.if-i-b.true)))

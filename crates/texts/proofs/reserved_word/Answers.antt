@@ -43,10 +43,10 @@ slice_bounds-same-end c = omega (arith, row_short c.loop-k.k (omega arith))
 
 pub returns-then-same : goal.returns-then-same
 unfolding lengths letters
-returns-then-same c = 
+returns-then-same c =
     let compared : c.same.result ≡ same (get_or reserved c.loop-k.k []) c.args.w.now = c.same.ensures
-        ∙ ap (λ (l : Text). same l c.args.w.now)
-        (ap (λ (n : ℕ). take n (drop (c.loop-k.k * 7) letters)) (add-sub_cancel_left (c.loop-k.k * 7) _) ∙ row_word c.loop-k.k (omega (arith, c.loop-k-test.true))) in
+    ∙ ap (λ (l : Text). same l c.args.w.now)
+    (ap (λ (n : ℕ). take n (drop (c.loop-k.k * 7) letters)) (add-sub_cancel_left (c.loop-k.k * 7) _) ∙ row_word c.loop-k.k (omega (arith, c.loop-k-test.true))) in
     let f = search_found _ c.loop-k.k (omega (arith, c.loop-k-test.true)) c.loop-k.invariant.1 (sym (compared) ∙ c.if-same.true) in record { listed = f.0; terminal = f.1; index = omega (arith, c.loop-k-test.true) }
 
 pub overflow_add-k : goal.overflow_add-k
@@ -57,10 +57,10 @@ loop-k-smaller c = omega arith
 
 pub loop-k-preserved : goal.loop-k-preserved
 unfolding lengths letters
-loop-k-preserved c = 
+loop-k-preserved c =
     let compared : c.same.result ≡ same (get_or reserved c.loop-k.k []) c.args.w.now = c.same.ensures
-        ∙ ap (λ (l : Text). same l c.args.w.now)
-        (ap (λ (n : ℕ). take n (drop (c.loop-k.k * 7) letters)) (add-sub_cancel_left (c.loop-k.k * 7) _) ∙ row_word c.loop-k.k (omega (arith, c.loop-k-test.true))) in
+    ∙ ap (λ (l : Text). same l c.args.w.now)
+    (ap (λ (n : ℕ). take n (drop (c.loop-k.k * 7) letters)) (add-sub_cancel_left (c.loop-k.k * 7) _) ∙ row_word c.loop-k.k (omega (arith, c.loop-k-test.true))) in
     (omega arith, search_next _ c.loop-k.k (omega (arith, c.loop-k-test.true)) c.loop-k.invariant.1 (sym (compared) ∙ c.if-same.false))
 
 pub returns : goal.returns

@@ -20,12 +20,12 @@ returns-then-a-i c = sym
 
 pub loop-i-preserved : goal.loop-i-preserved
 loop-i-preserved c = (
-      c.loop-i.invariant.0,
-      omega arith,
-      c.loop-i.invariant.2
-          ∙ same_step _ _ c.loop-i.i (search rules) (search rules)
-          ∙ simp (eq-eqb _ _ c.if-a-i.false),
-    )
+  c.loop-i.invariant.0,
+  omega arith,
+  c.loop-i.invariant.2
+      ∙ same_step _ _ c.loop-i.i (search rules) (search rules)
+      ∙ simp (eq-eqb _ _ c.if-a-i.false),
+)
 
 pub returns : goal.returns
 returns c = sym (c.loop-i.invariant.2 ∙ same_end _ _ c.loop-i.i (search rules) (search rules))

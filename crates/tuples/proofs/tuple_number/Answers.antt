@@ -25,7 +25,7 @@ pub bounds-t-k : goal.bounds-t-k
 bounds-t-k c = omega arith
 
 pub overflow_add-i : goal.overflow_add-i
-overflow_add-i c = 
+overflow_add-i c =
     let next_lt : c.args.u * c.loop-k.i + c.wide.result < 256 ^ (c.loop-k.k + 1) = step_lt c.args.u c.loop-k.i c.loop-k.k c.wide.result c.ranges.u.fits c.loop-k.invariant.1 c.wide.ensures.1 in
     omega (arith, next_lt, small (c.loop-k.k + 1) (omega arith))
 
@@ -36,7 +36,7 @@ pub loop-k-smaller : goal.loop-k-smaller
 loop-k-smaller c = omega arith
 
 pub loop-k-preserved : goal.loop-k-preserved
-loop-k-preserved c = 
+loop-k-preserved c =
     let next_lt : c.args.u * c.loop-k.i + c.wide.result < 256 ^ (c.loop-k.k + 1) = step_lt c.args.u c.loop-k.i c.loop-k.k c.wide.result c.ranges.u.fits c.loop-k.invariant.1 c.wide.ensures.1 in
     let a = c.args in
     let L = c.loop-k in

@@ -15,12 +15,12 @@ pub overflow_sub-k : goal.overflow_sub-k
 overflow_sub-k c = omega arith
 
 pub nonzero_rem-t : goal.nonzero_rem-t
-nonzero_rem-t c = 
+nonzero_rem-t c =
     let positive : 0 < c.args.u = base_pos c.args.u c.args.n c.args.i c.requires.1 (omega arith) in
     omega (arith, positive)
 
 pub overflow_cast-t-in-loop-k : goal.overflow_cast-t-in-loop-k
-overflow_cast-t-in-loop-k c = 
+overflow_cast-t-in-loop-k c =
     let positive : 0 < c.args.u = base_pos c.args.u c.args.n c.args.i c.requires.1 (omega arith) in
     omega (arith, mod-lt c.loop-k.rest (positive))
 
@@ -28,7 +28,7 @@ pub bounds-t-k : goal.bounds-t-k
 bounds-t-k c = omega arith
 
 pub nonzero_div-rest : goal.nonzero_div-rest
-nonzero_div-rest c = 
+nonzero_div-rest c =
     let positive : 0 < c.args.u = base_pos c.args.u c.args.n c.args.i c.requires.1 (omega arith) in
     omega (arith, positive)
 

@@ -19,5 +19,8 @@ tuple_of-t-requires c = (c.requires.0, c.requires.4 c.if-x-k.false)
 pub returns : goal.returns
 returns c = let a = c.args in
     let T = texts a.facts.now a.query.now a.places.now in
-    let l = c.lay_line in record { value = subst (λ (t : List ℕ). Laid a.write a.out.now a.p t l.result l.new.1.1.1.1.1.1.0)
-          (ap (line_of T (a.name.now ∷ [])) c.tuple_of-t.ensures ∙ number_line T a.name.now a.k a.n a.x c.if-x-k.false) l.ensures.value; within = l.ensures.within }
+    let l = c.lay_line in record {
+      value = subst (λ (t : List ℕ). Laid a.write a.out.now a.p t l.result l.new.out)
+          (ap (line_of T (a.name.now ∷ [])) c.tuple_of-t.ensures ∙ number_line T a.name.now a.k a.n a.x c.if-x-k.false) l.ensures.value;
+      within = l.ensures.within;
+    }

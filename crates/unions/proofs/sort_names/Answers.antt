@@ -14,14 +14,12 @@ pub enter_part-requires : goal.enter_part-requires
 enter_part-requires c = let L = c.loop-i in omega (arith, c.requires, L.invariant.0, L.invariant.1.1)
 
 pub returns-in-Full : goal.returns-in-Full
-returns-in-Full c = 
-    let h = let a = c.args in
+returns-in-Full c = let a = c.args in
     let L = c.loop-i in
     let v = get_or a.relations.now (L.i - 1) 0 in
     let es = enter a.facts.now a.query.now v (take L.n L.words) in
     absurd (sort_fits a.facts.now a.query.now a.relations.now L.words L.n L.i L.invariant.1 c.loop-i-test.true (omega (arith, c.requires, L.invariant.0)) es _ c.in-Full.is
-    c.enter_part.ensures.value (one_more a.facts.now a.query.now v L.words L.n)) in
-    record { value = h.0; within = h.1 }
+    c.enter_part.ensures.value (one_more a.facts.now a.query.now v L.words L.n))
 
 pub loop-i-preserved : goal.loop-i-preserved
 loop-i-preserved c = let a = c.args in
@@ -34,7 +32,7 @@ pub shape_of-words : goal.shape_of-words
 shape_of-words c = c.loop-i.invariant.0
 
 pub returns : goal.returns
-returns c = 
+returns c =
     let h = let a = c.args in
     let L = c.loop-i in
     sort_all a.facts.now a.query.now a.relations.now L.words L.n L.i L.invariant.1 c.loop-i-test.false in

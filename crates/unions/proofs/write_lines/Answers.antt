@@ -18,7 +18,7 @@ pub write_some-requires : goal.write_some-requires
 write_some-requires c = let a = c.args in
     let f = c.sort_names-m in (
       c.requires.1,
-      omega (arith, c.requires.0, f.ensures.within, length-take f.result f.new.1.1.1.0, min-le_left f.result (length f.new.1.1.1.0)),
+      omega (arith, c.requires.0, f.ensures.within, length-take f.result f.new.words, min-le_left f.result (length f.new.words)),
       c.requires.2,
       subst (AllNumbered a.facts.now a.query.now a.relations.now (length a.places.now) a.numbers.now) {x = sorted a.facts.now a.query.now a.relations.now} (sym f.ensures.value) c.requires.3,
     )
@@ -26,4 +26,4 @@ write_some-requires c = let a = c.args in
 pub returns : goal.returns
 returns c = let a = c.args in
     let w = c.write_some in
-    subst (λ (vs : List ℕ). join_meets (of_text 0 (within_room (length a.output.now) (all_lines (texts a.facts.now a.query.now a.places.now) a.relations.now a.numbers.now vs)) right) a.output.now w.result w.new.1.1.1.1.1.1.0) {y = sorted a.facts.now a.query.now a.relations.now} c.sort_names-m.ensures.value w.ensures
+    subst (λ (vs : List ℕ). join_meets (of_text 0 (within_room (length a.output.now) (all_lines (texts a.facts.now a.query.now a.places.now) a.relations.now a.numbers.now vs)) right) a.output.now w.result w.new.output) {y = sorted a.facts.now a.query.now a.relations.now} c.sort_names-m.ensures.value w.ensures
