@@ -1,4 +1,4 @@
-/* relcalc: RML queries over RSF facts, five calls. Link librelcalc_c.a (rt staticlib relcalc_c).
+/* relcalc: RML queries over RSF facts, five calls. Link librelcalc_c.a (rt lib in crates/relcalc_c).
 
    Each call answers from what it is lent and from nothing else. It takes any bytes, allocates nothing, keeps nothing, opens
    nothing and always returns. Calls may run at the same time on several threads. One call needs less than 256 KiB of stack.

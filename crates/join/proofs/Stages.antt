@@ -36,6 +36,9 @@ module _ (first second : Text) where
         elements_are = held_take m.2;
       }
 
+  pub first_fails : (rs us : List ℕ) (q : Refusal) → length rs ≡ 16 → length us ≡ 64 → read_facts (limits_of (length rs) (length us)) first ≡ refusal q → read_facts document_01 first ≡ refusal q
+  first_fails rs us q r u e = ap₂ (λ (i j : ℕ). read_facts (limits_of i j) first) (sym r) (sym u) ∙ e
+
   -- its lists turned
   module _ (rs us : List ℕ) (c : Counts) (h : FirstRead first second rs us c) (rs₁ us₁ : List ℕ) (e : rs₁ ≡ map turned rs) (f : us₁ ≡ map turned us) where
     relations_turned : take c.relations rs₁ ≡ map turned (noted first second (all_facts first))
