@@ -1,10 +1,12 @@
 -- How the passes make up the answer, and what the arrays hold then.
+use Rattle.std.specs.Prelude.{Result, Ok, Err}
 use Prim.Native.Nat.{ℕ, ◌+◌, ◌<◌, ◌≤◌}
 use mathlib.Core.Path.{◌≡◌, refl, sym, ap, ap₂, subst, ◌∙◌}
 use mathlib.Core.List.{List}
 use native.Mathlib.Omega.{arith}
 use lib.ListN.{length, get_or, take}
 use lib.Seq.{length-take-le, take-length, take-take}
+use Rattle.std.specs.Prelude.{Result, Ok, Err}
 use Rattle.definition.specs.Text.{Text}
 use Rattle.definition.specs.Limits.{document_01}
 use Rattle.definition.specs.Token.{Token}
@@ -19,35 +21,23 @@ use Rattle.definition.proofs.AcceptLaws as AcceptLaws
 use Rattle.parts.specs.Entries.{texts_of}
 use Rattle.parts.proofs.HeldLaws.{held_take}
 use Rattle.facts.specs.declared.Counts.{Counts}
-use Rattle.facts.specs.declared.FactsRead.{FactsRead}
-use Rattle.facts.specs.declared.FactsRead.TheVariants as FactsRead
+use Rattle.std.specs.declared.result.Result.{Result}
+use Rattle.std.specs.declared.result.Result.TheVariants.{Ok, Err}
 use Rattle.facts.specs.Words.{relations_of, noted, entered}
 use Rattle.facts.specs.Pass.{limits_of, facts_of}
 use Rattle.facts.specs.Reading.{all_facts, Meets}
 use Rattle.words.specs.Raw.{flat_program}
 use Rattle.words.specs.Tokens.{OwnProgram}
-use Rattle.kinds.specs.declared.Named.{Named}
-use Rattle.kinds.specs.declared.Named.TheVariants as Named
 use Rattle.kinds.specs.Resolved.{Parsed, Stands, Resolved}
 use Rattle.kinds.specs.Resolved as Resolved
 use Rattle.intern.specs.Entries.{Stand}
-use Rattle.malformed.specs.declared.Formed.{Formed}
-use Rattle.malformed.specs.declared.Formed.TheVariants as Formed
 use Rattle.malformed.specs.Walk as Malformed
-use Rattle.rows.specs.declared.Ruled.{Ruled}
-use Rattle.rows.specs.declared.Ruled.TheVariants as Ruled
 use Rattle.rows.specs.Statements.{meets, Setting}
 use Rattle.lexer.specs.Tokens.{tokens_of}
-use Rattle.parser.specs.declared.QueryRead.{QueryRead}
-use Rattle.parser.specs.declared.QueryRead.TheVariants as QueryRead
 use Rattle.parser.specs.Queries.{ReadAs, IsRead}
 use Rattle.universe.specs.Strings.{WithStrings, StringsMeet}
-use Rattle.universe.specs.declared.Strings.{Strings}
-use Rattle.universe.specs.declared.Strings.TheVariants as Strings
 use Rattle.universe.proofs.Filling.{filled}
 use Rattle.acceptance.specs.declared.Sizes.{Sizes}
-use Rattle.acceptance.specs.declared.Texts.{Texts}
-use Rattle.acceptance.specs.declared.Texts.TheVariants as Texts
 use Rattle.acceptance.specs.Passes.{FactsIn, QueryIn, FormedIn, NamesIn}
 use Rattle.acceptance.specs.Reading.{Reading, Sized, Accepts, accepts, refuses}
 
@@ -58,11 +48,11 @@ module _ (facts query : Text) (tokens ids known relations : List ℕ) where
     pub is : a ≡ ok kinds
     pub stands : Stands facts query tokens ids known relations r kinds
 
-  resolved_done : {x : Named} {a : Answer Kinds} → Resolved facts query tokens ids known relations x a → (r : ℕ) → x ≡ Named.Done r → NamedAs r a
+  resolved_done : {x : Result ℕ Refusal} {a : Answer Kinds} → Resolved facts query tokens ids known relations x a → (r : ℕ) → x ≡ Ok r → NamedAs r a
   resolved_done (Resolved.done {c = c} {k = k} s) r e = let same : c ≡ r = cc in record { kinds = k; is = refl; stands = subst (λ (i : ℕ). Stands facts query tokens ids known relations i k) same s }
   resolved_done Resolved.refuses r e = let z : ◌≡◌ {A = ℕ} 0 1 = cc in absurd (omega arith)
 
-  resolved_refused : {x : Named} {a : Answer Kinds} → Resolved facts query tokens ids known relations x a → (y : Refusal) → x ≡ Named.Refused y → a ≡ refused (number y) (place y)
+  resolved_refused : {x : Result ℕ Refusal} {a : Answer Kinds} → Resolved facts query tokens ids known relations x a → (y : Refusal) → x ≡ Err y → a ≡ refused (number y) (place y)
   resolved_refused (Resolved.done {c = c} {k = k} s) y e = let z : ◌≡◌ {A = ℕ} 0 1 = cc in absurd (omega arith)
   resolved_refused (Resolved.refuses {q = q}) y e = let same : q ≡ y = cc in ap (λ (v : Refusal). refused (number v) (place v)) same
 
@@ -80,16 +70,16 @@ module _ (facts query : Text) (tokens words ids known relations places : List �
         places_inside = z.places_inside;
       }
 
-  pub with_room : {r : Texts} → Accepts facts query (take t tokens) (take m words) ids known relations places r → Accepts facts query tokens words ids known relations places r
+  pub with_room : {r : Result Sizes Refusal} → Accepts facts query (take t tokens) (take m words) ids known relations places r → Accepts facts query tokens words ids known relations places r
   with_room (accepts {s = s} w z) = accepts {s = s} w (sized_in s w z)
   with_room (refuses e) = refuses e
 
 -- The query's answer.
-module _ (query : Text) (tokens words : List ℕ) (x : QueryRead) (e : IsRead query tokens words x) where
-  pub query_right : (t m : ℕ) → x ≡ QueryRead.Read t m → ReadAs query (take t tokens) (take m words) t m
+module _ (query : Text) (tokens words : List ℕ) (x : Result (ℕ × ℕ) Refusal) (e : IsRead query tokens words x) where
+  pub query_right : (t m : ℕ) → x ≡ Ok (t, m) → ReadAs query (take t tokens) (take m words) t m
   query_right t m a = subst (IsRead query tokens words) a e
 
-  pub query_in : (t m : ℕ) (a : x ≡ QueryRead.Read t m) → 2048 ≤ length tokens → 2048 ≤ length words
+  pub query_in : (t m : ℕ) (a : x ≡ Ok (t, m)) → 2048 ≤ length tokens → 2048 ≤ length words
       → QueryIn query (take t tokens) (take m words) (tokens_of query 0 (take t tokens)) (query_right t m a).program
   query_in t m a h l =
       let g = query_right t m a in
@@ -102,13 +92,13 @@ module _ (query : Text) (tokens words : List ℕ) (x : QueryRead) (e : IsRead qu
       }
 
 -- The facts' answer.
-module _ (facts query : Text) (rs rs' us us' : List ℕ) (x : FactsRead) (h : length rs ≡ 16) (l : length us ≡ 64) (e : Meets facts query rs rs' us us' x) where
-  pub facts_in : (c : Counts) → x ≡ FactsRead.Given c → FactsIn facts query rs' us' c
+module _ (facts query : Text) (rs rs' us us' : List ℕ) (x : Result Counts Refusal) (h : length rs ≡ 16) (l : length us ≡ 64) (e : Meets facts query rs rs' us us' x) where
+  pub facts_in : (c : Counts) → x ≡ Ok c → FactsIn facts query rs' us' c
   facts_in c a = record { old_relations = rs; old_places = us; sixteen = h; sixty_four = l; read = subst (Meets facts query rs rs' us us') a e }
 
-  pub facts_wrong : (tokens words ids known : List ℕ) (q : Refusal) → x ≡ FactsRead.Refused q → Accepts facts query tokens words ids known rs' us' (Texts.Refused q)
+  pub facts_wrong : (tokens words ids known : List ℕ) (q : Refusal) → x ≡ Err q → Accepts facts query tokens words ids known rs' us' (Err q)
   facts_wrong tokens words ids known q a =
-      let m : Meets facts query rs rs' us us' (FactsRead.Refused q) = subst (Meets facts query rs rs' us us') a e in
+      let m : Meets facts query rs rs' us us' (Err q) = subst (Meets facts query rs rs' us us') a e in
       refuses (AcceptLaws.refused_facts document_01 facts query (number q) (place q) (ap₂ (λ (i j : ℕ). read_facts (limits_of i j) facts) (sym h) (sym l) ∙ m.0))
 
 module _ (facts query : Text) (given places : List ℕ) (c : Counts) (f : FactsIn facts query given places c) where
@@ -125,23 +115,23 @@ module _ (facts query : Text) (given places : List ℕ) (c : Counts) (f : FactsI
   pub universe_read : texts_of facts query (take c.elements places) ≡ all.universe
   universe_read = ap (texts_of facts query) (held_take f.read.2)
 
-  pub query_wrong : (tokens words ids known relations places' : List ℕ) (x : QueryRead) (y : Refusal) → x ≡ QueryRead.Refused y → IsRead query tokens words x
-      → Accepts facts query tokens words ids known relations places' (Texts.Refused y)
+  pub query_wrong : (tokens words ids known relations places' : List ℕ) (x : Result (ℕ × ℕ) Refusal) (y : Refusal) → x ≡ Err y → IsRead query tokens words x
+      → Accepts facts query tokens words ids known relations places' (Err y)
   query_wrong tokens words ids known relations places' x y a e =
       refuses (AcceptLaws.refused_query document_01 facts query all facts_read (number y) (place y) (subst (IsRead query tokens words) a e))
 
   -- the patterns' answer
-  module _ (tokens words : List ℕ) (ts : List Token) (p : Program) (q : QueryIn query tokens words ts p) (x : Formed)
+  module _ (tokens words : List ℕ) (ts : List Token) (p : Program) (q : QueryIn query tokens words ts p) (x : Result (Unit {0}) Refusal)
       (h : (ts : List Token) (p : Program) → Stand query tokens ts → length ts < 65536 → OwnProgram ts p → words ≡ flat_program p 0 → Malformed.meets x (pattern_rows (program_patterns p))) where
     met : Malformed.meets x (pattern_rows (program_patterns p))
     met = h ts p q.parsed.stand q.parsed.few q.parsed.own q.parsed.flat
 
-    pub patterns_wrong : (ids known relations places' : List ℕ) (y : Refusal) → x ≡ Formed.Refused y → Accepts facts query tokens words ids known relations places' (Texts.Refused y)
+    pub patterns_wrong : (ids known relations places' : List ℕ) (y : Refusal) → x ≡ Err y → Accepts facts query tokens words ids known relations places' (Err y)
     patterns_wrong ids known relations places' y e =
-        refuses (AcceptLaws.refused_patterns document_01 facts query all facts_read p q.read (number y) (place y) (subst (λ (v : Formed). Malformed.meets v (pattern_rows (program_patterns p))) e met))
+        refuses (AcceptLaws.refused_patterns document_01 facts query all facts_read p q.read (number y) (place y) (subst (λ (v : Result (Unit {0}) Refusal). Malformed.meets v (pattern_rows (program_patterns p))) e met))
 
-    pub patterns_right : x ≡ Formed.Fine → FormedIn query tokens words ts p
-    patterns_right e = record { query_in = q; formed = subst (λ (v : Formed). Malformed.meets v (pattern_rows (program_patterns p))) e met }
+    pub patterns_right : x ≡ Ok tt → FormedIn query tokens words ts p
+    patterns_right e = record { query_in = q; formed = subst (λ (v : Result (Unit {0}) Refusal). Malformed.meets v (pattern_rows (program_patterns p))) e met }
 
   module _ (tokens words : List ℕ) (ts : List Token) (p : Program) (formed : FormedIn query tokens words ts p) where
     abbrev pub q : QueryIn query tokens words ts p
@@ -153,10 +143,10 @@ module _ (facts query : Text) (given places : List ℕ) (c : Counts) (f : FactsI
         AcceptLaws.refused_names document_01 facts query all facts_read p q.read formed.formed (number x) (place x)
         (ap (λ (rs : List Relation). use_names document_01 (in_program p) (fact_kinds rs)) (sym relations_read) ∙ e)
 
-    pub names_wrong : (ids known relations places' : List ℕ) (x : Named) (y : Refusal) → x ≡ Named.Refused y
+    pub names_wrong : (ids known relations places' : List ℕ) (x : Result ℕ Refusal) (y : Refusal) → x ≡ Err y
         → ((ts : List Token) (p : Program) → Parsed query tokens words ts p
         → Resolved facts query tokens ids known relations x (use_names document_01 (in_program p) (fact_kinds (relations_of facts query (take c.relations given)))))
-        → Accepts facts query tokens words ids known relations places' (Texts.Refused y)
+        → Accepts facts query tokens words ids known relations places' (Err y)
     names_wrong ids known relations places' x y e h = refuses (names_refused y (resolved_refused facts query tokens ids known relations (h ts p q.parsed) y e))
 
     -- the kinds that a pass without refusal has found
@@ -164,7 +154,7 @@ module _ (facts query : Text) (given places : List ℕ) (c : Counts) (f : FactsI
       pub kinds : Kinds
       pub names : NamesIn facts query tokens ids known (take c.relations given) relations r p kinds
 
-    pub names_right : (ids known relations : List ℕ) (x : Named) (r : ℕ) → x ≡ Named.Done r
+    pub names_right : (ids known relations : List ℕ) (x : Result ℕ Refusal) (r : ℕ) → x ≡ Ok r
         → ((ts : List Token) (p : Program) → Parsed query tokens words ts p
         → Resolved facts query tokens ids known relations x (use_names document_01 (in_program p) (fact_kinds (relations_of facts query (take c.relations given)))))
         → length relations ≡ 16 → ((t : ℕ) → t < length tokens → get_or ids t 0 < c.relations + length tokens) → c.relations ≤ 16 → Kinded ids known relations r
@@ -199,14 +189,14 @@ module _ (facts query : Text) (given places : List ℕ) (c : Counts) (f : FactsI
       rows_refused : (x : Refusal) → program_rows (variables k) p ≡ refused (number x) (place x) → accept document_01 facts query ≡ refused (number x) (place x)
       rows_refused x e = AcceptLaws.refused_rows document_01 facts query all facts_read p q.read formed.formed k names_known (number x) (place x) e
 
-      abbrev Ruling : Ruled → Type 0
+      abbrev Ruling : Result (Unit {0}) Refusal → Type 0
       Ruling x = (S : Setting words ids known) (p : Program) → OwnProgram S.ts p → words ≡ flat_program p 0 → meets x (program_rows (variables S.kinds) p)
 
-      pub rows_wrong : (places' : List ℕ) (x : Ruled) (y : Refusal) → x ≡ Ruled.Refused y → Ruling x → Accepts facts query tokens words ids known relations places' (Texts.Refused y)
-      rows_wrong places' x y e h = refuses (rows_refused y (subst (λ (v : Ruled). meets v (program_rows (variables k) p)) e (h setting p q.parsed.own q.parsed.flat)))
+      pub rows_wrong : (places' : List ℕ) (x : Result (Unit {0}) Refusal) (y : Refusal) → x ≡ Err y → Ruling x → Accepts facts query tokens words ids known relations places' (Err y)
+      rows_wrong places' x y e h = refuses (rows_refused y (subst (λ (v : Result (Unit {0}) Refusal). meets v (program_rows (variables k) p)) e (h setting p q.parsed.own q.parsed.flat)))
 
-      pub rows_right : (x : Ruled) → x ≡ Ruled.Fine → Ruling x → program_rows (variables k) p ≡ ok tt
-      rows_right x e h = subst (λ (v : Ruled). meets v (program_rows (variables k) p)) e (h setting p q.parsed.own q.parsed.flat)
+      pub rows_right : (x : Result (Unit {0}) Refusal) → x ≡ Ok tt → Ruling x → program_rows (variables k) p ≡ ok tt
+      rows_right x e h = subst (λ (v : Result (Unit {0}) Refusal). meets v (program_rows (variables k) p)) e (h setting p q.parsed.own q.parsed.flat)
 
       module _ (right : program_rows (variables k) p ≡ ok tt) where
         pub strings_refused : (at : ℕ) → use_elements document_01 (left_strings p) (texts_of facts query (take c.elements places)) ≡ refused 7 at → accept document_01 facts query ≡ refused 7 at
@@ -224,7 +214,7 @@ module _ (facts query : Text) (given places : List ℕ) (c : Counts) (f : FactsI
               (ap (λ (us : List Text). use_elements document_01 (left_strings p) us) (sym universe_read) ∙ s.universe)
 
           all_in : u ≤ length places'
-              → Accepts facts query tokens words ids known relations places' (Texts.Accepted (record { relations = r; elements = u; tokens = length tokens; words = length words }))
+              → Accepts facts query tokens words ids known relations places' (Ok (record { relations = r; elements = u; tokens = length tokens; words = length words }))
           all_in room =
               let few = n.stands.few in
               let first : length (take r relations) ≡ r = length-take-le r relations (omega (arith, n.room)) in
@@ -262,12 +252,12 @@ module _ (facts query : Text) (given places : List ℕ) (c : Counts) (f : FactsI
                 places_inside = omega arith;
               })
 
-        pub strings_full : (places' : List ℕ) (at : ℕ) (x : Strings) → x ≡ Strings.Full at → StringsMeet facts query p tokens words places places' c.elements x
-            → Accepts facts query tokens words ids known relations places' (Texts.Refused (Refusal.TooManyElements at))
+        pub strings_full : (places' : List ℕ) (at : ℕ) (x : Result ℕ ℕ) → x ≡ Err at → StringsMeet facts query p tokens words places places' c.elements x
+            → Accepts facts query tokens words ids known relations places' (Err (Refusal.TooManyElements at))
         strings_full places' at x a b = refuses (strings_refused at (subst (StringsMeet facts query p tokens words places places' c.elements) a b))
 
-        pub strings_in : (places' : List ℕ) (u : ℕ) (x : Strings) → x ≡ Strings.Count u → StringsMeet facts query p tokens words places places' c.elements x → length places' ≡ 64
-            → Accepts facts query tokens words ids known relations places' (Texts.Accepted (record { relations = r; elements = u; tokens = length tokens; words = length words }))
+        pub strings_in : (places' : List ℕ) (u : ℕ) (x : Result ℕ ℕ) → x ≡ Ok u → StringsMeet facts query p tokens words places places' c.elements x → length places' ≡ 64
+            → Accepts facts query tokens words ids known relations places' (Ok (record { relations = r; elements = u; tokens = length tokens; words = length words }))
         strings_in places' u x a b l =
             let s : WithStrings facts query p tokens words places places' c.elements u = subst (StringsMeet facts query p tokens words places places' c.elements) a b in
             all_in places' u s (omega (arith, s.few))

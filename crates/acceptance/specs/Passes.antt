@@ -1,5 +1,5 @@
 -- What the passes over two texts leave behind, one after another.
-use Rattle.std.specs.Prelude.{ℕ, ◌<◌, ◌≤◌, ◌≡◌, List, length, get_or}
+use Rattle.std.specs.Prelude.{ℕ, ◌<◌, ◌≤◌, ◌≡◌, List, length, get_or, Ok}
 use Rattle.definition.specs.Text.{Text}
 use Rattle.definition.specs.Limits.{document_01}
 use Rattle.definition.specs.Token.{Token}
@@ -9,7 +9,6 @@ use Rattle.definition.specs.Names.{Kinds, program_patterns, pattern_rows, in_pro
 use Rattle.definition.specs.Accept.{read_query}
 use Rattle.lexer.specs.Tokens.{Inside}
 use Rattle.facts.specs.declared.Counts.{Counts}
-use Rattle.facts.specs.declared.FactsRead.TheVariants.{Given}
 use Rattle.facts.specs.Words.{relations_of}
 use Rattle.facts.specs.Reading.{Meets}
 use Rattle.kinds.specs.Resolved.{Parsed, Stands}
@@ -20,7 +19,7 @@ pub record FactsIn (facts query : Text) (relations places : List ℕ) (c : Count
   pub old_places : List ℕ
   pub sixteen : length old_relations ≡ 16
   pub sixty_four : length old_places ≡ 64
-  pub read : Meets facts query old_relations relations old_places places (Given c)
+  pub read : Meets facts query old_relations relations old_places places (Ok c)
 
 -- the query is read
 pub record QueryIn (query : Text) (tokens words : List ℕ) (ts : List Token) (p : Program) : Type 0 where

@@ -1,5 +1,5 @@
 -- What the passes over two texts leave in the lent arrays, where the texts are accepted.
-use Rattle.std.specs.Prelude.{ℕ, ◌<◌, ◌≤◌, ◌≡◌, List, length, get_or, take}
+use Rattle.std.specs.Prelude.{ℕ, ◌<◌, ◌≤◌, ◌≡◌, List, length, get_or, take, Result, Ok, Err}
 use Rattle.definition.specs.Text.{Text}
 use Rattle.definition.specs.Limits.{document_01}
 use Rattle.definition.specs.Token.{Token}
@@ -13,8 +13,6 @@ use Rattle.facts.specs.Words.{relations_of}
 use Rattle.kinds.specs.Resolved.{Parsed, Stands}
 use Rattle.universe.proofs.Filling.{Filled}
 use Rattle.acceptance.specs.declared.Sizes.{Sizes}
-use Rattle.acceptance.specs.declared.Texts.{Texts}
-use Rattle.acceptance.specs.declared.Texts.TheVariants as Texts
 
 -- the arrays, as long as what they hold, stand for the accepted texts w
 pub record Reading (facts query : Text) (tokens words ids known relations places : List ℕ) (w : Accepted) : Type 0 where
@@ -48,6 +46,6 @@ module _ (facts query : Text) (tokens words ids known relations places : List �
     pub places_inside : s.elements ≤ length places
 
   -- the answer of the code: these sizes, or the definition's refusal
-  pub data Accepts : Texts → Type 0 where
-    accepts : {s : Sizes} (w : Accepted) → Sized s w → Accepts (Texts.Accepted s)
-    refuses : {q : Refusal} → accept document_01 facts query ≡ refused (number q) (place q) → Accepts (Texts.Refused q)
+  pub data Accepts : Result Sizes Refusal → Type 0 where
+    accepts : {s : Sizes} (w : Accepted) → Sized s w → Accepts (Ok s)
+    refuses : {q : Refusal} → accept document_01 facts query ≡ refused (number q) (place q) → Accepts (Err q)

@@ -10,16 +10,9 @@ use borrow.Rule.Slice.PartMut.{mid_of, put_mid}
 use lib.Dec.{eqb, leb}
 use lib.ListN.{length, get_or, drop, replicate, length-replicate, length-drop}
 use lib.Seq.{sets, sets-eq, drop-drop, length-take-le}
-use Rattle.words.specs.Fields.{kind_of, RANGE, NEXT, ASSIGN, TEST, JUMP, AGAIN, PRINT, CLOSURE}
+use Rattle.words.specs.Fields.{kind_of, CLOSURE}
 use Rattle.eval.specs.Nodes.{c_of}
 use Rattle.actions.specs.Parts.{is_statement, start, clear_word, clear_words}
-
--- a kind of no statement, as the code's match tells it
-pub no_statement : (k : ℕ) → ((((((Unit {0} × (k ≡ RANGE → ⊥)) × (k ≡ NEXT → ⊥)) × (k ≡ ASSIGN → ⊥)) × (k ≡ TEST → ⊥)) × (k ≡ JUMP → ⊥)) × (k ≡ AGAIN → ⊥)) × (k ≡ PRINT → ⊥)
-    → false ≡ is_statement k
-unfolding is_statement
-no_statement k z =
-    sym (simp (ne_eqb _ _ z.0.0.0.0.0.0.1, ne_eqb _ _ z.0.0.0.0.0.1, ne_eqb _ _ z.0.0.0.0.1, ne_eqb _ _ z.0.0.0.1, ne_eqb _ _ z.0.0.1, ne_eqb _ _ z.0.1, ne_eqb _ _ z.1))
 
 -- over words that are no statement's own the start stays
 pub start_quiet : (words : List ℕ) (s m : ℕ) → start words s ≡ s → ((i : ℕ) → s ≤ i → i < s + m → is_statement (kind_of (get_or words i 0)) ≡ false) → start words (s + m) ≡ s

@@ -4,7 +4,7 @@ use mathlib.Core.Path.{◌≡◌, refl, sym, ap, ◌∙◌}
 use mathlib.Core.Bool.{Bool, true, false, not, ◌&&◌, cond}
 use mathlib.Core.List.{List}
 use native.Mathlib.Omega.{arith}
-use borrow.Author.Tests.{leb-true, leb-false, lt-leb, le-leb}
+use borrow.Author.Tests.{leb-true, lt-leb, le-leb}
 use lib.Dec.{leb}
 use lib.ListN.{length, get_or, take, replicate}
 use lib.Seq.{sets}
@@ -25,19 +25,6 @@ not_false false e = sym e
 module _ (off len scr total : ℕ) where
   abbrev room : Bool
   room = leb (off + len) scr && leb (scr + len) total
-
-  pub no_place : scr < off + len → false ≡ room
-  no_place h = rw (lt-leb _ _ h) refl
-
-  pub no_scratch : off + len ≤ scr → total < scr + len → false ≡ room
-  no_scratch h l = rw (le-leb _ _ h, lt-leb _ _ l) refl
-
-  pub scratch_room : off + len ≤ scr → len ≤ total → leb scr (total - len) ≡ room
-  scratch_room h l = go (leb scr (total - len)) refl
-    where
-      go : (b : Bool) → leb scr (total - len) ≡ b → b ≡ room
-      go true e = let k : scr + len ≤ total = omega (arith, leb-true scr (total - len) e) in rw (le-leb _ _ h, le-leb _ _ k) refl
-      go false e = no_scratch h (omega (arith, leb-false scr (total - len) e))
 
   both : (a b : Bool) → a && b ≡ true → (a ≡ true) × (b ≡ true)
   both true b e = (refl, e)

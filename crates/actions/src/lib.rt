@@ -17,33 +17,23 @@ use tuples::table_words;
 use words::{previous, word_at};
 
 // Whether a word is a statement's own.
+#[tactic(auto, unfolding(crate::specs::Parts::is_statement))]
 pub fn statement(w: u64) -> bool
     ensures { result ≡ is_statement (kind_of w) }
 {
-    match w % 256 {
-        6 => true,
-        7 => true,
-        33 => true,
-        34 => true,
-        35 => true,
-        36 => true,
-        37 => true,
-        _ => false,
-    }
+    matches!(w % 256, 6 | 7 | 33..=37)
 }
 
 // The place of the first word of the statement at a place.
 fn start_of(words: &[u64], at: usize) -> usize
     ensures { (result ≡ start words.now at) × (result ≤ at) }
 {
-    let mut n = at;
-    while 0 < n {
-        if statement(word_at(words, n - 1)) {
-            return n;
+    for n in (0..at).rev() {
+        if statement(word_at(words, n)) {
+            return n + 1;
         }
-        n -= 1;
     }
-    n
+    0
 }
 
 // The table of the closure at place k zero again, if there is one and its table lies in the store.
@@ -120,28 +110,19 @@ pub fn range_at(
 fn has_room(off: usize, len: usize, scr: usize, total: usize) -> bool
     ensures { result ≡ leb (off + len) scr && leb (scr + len) total }
 {
-    if len > scr {
-        return false;
-    }
-    if off > scr - len {
-        return false;
-    }
-    if len > total {
-        return false;
-    }
-    scr <= total - len
+    len <= scr && off <= scr - len && len <= total && scr <= total - len
 }
 
 // The columns of an assignment's left-hand side.
 fn left_side(w: u64) -> [u8; 4]
     ensures { result ≡ columns_of w }
 {
-    let mut c = [0u8; 4];
-    c[0] = (w / 16777216 % 256) as u8;
-    c[1] = (w / 4294967296 % 256) as u8;
-    c[2] = (w / 1099511627776 % 256) as u8;
-    c[3] = (w / 281474976710656 % 256) as u8;
-    c
+    [
+        (w / 16777216 % 256) as u8,
+        (w / 4294967296 % 256) as u8,
+        (w / 1099511627776 % 256) as u8,
+        (w / 281474976710656 % 256) as u8,
+    ]
 }
 
 // The assignment of the word w at a place, where its closures are worked out and there is room for its table.

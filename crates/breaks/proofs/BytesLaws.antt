@@ -15,7 +15,7 @@ use Rattle.definition.specs.Facts.{cut, bytes_read, legal_bytes}
 use Rattle.definition.specs.Join.{read_second}
 use Rattle.definition.specs.declared.Refusal.TheVariants.{FactsTooLong, FactByte}
 use Rattle.definition.proofs.TextLaws.{no_end}
-use Rattle.breaks.specs.declared.FactsBytes.TheVariants.{Right, Wrong}
+use Rattle.std.specs.declared.result.Result.TheVariants.{Ok, Err}
 use Rattle.breaks.specs.Bytes.{BytesRead}
 use Rattle.breaks.proofs.FirstLine.{line_size, cut_first}
 
@@ -47,16 +47,16 @@ module _ (xs : Text) (a e : ℕ) (within : a ≤ length xs) (r : e ≡ a + span 
     to_next k = record { is = h.is ∙ rw (cut_first xs a e within r b, drop-cons xs e 0, d, add-one) (omega (arith, size, from)) }
 
 module _ (facts : Text) where
-  pub bytes_long : FACT_BYTES < length facts → BytesRead facts (Wrong FactsTooLong)
+  pub bytes_long : FACT_BYTES < length facts → BytesRead facts (Err FactsTooLong)
   unfolding read_second
   bytes_long h limits s = rw (lt-ltb FACT_BYTES (length facts) h)
 
   module _ (short : length facts ≤ FACT_BYTES) (n : ℕ) (e : n ≡ legal_bytes facts) where
-    pub bytes_legal : n ≡ length facts → BytesRead facts Right
+    pub bytes_legal : n ≡ length facts → BytesRead facts (Ok tt)
     unfolding read_second
     bytes_legal h = (short, λ limits s. rw (le-ltb FACT_BYTES (length facts) short, le-ltb (legal_bytes facts) (length facts) (omega arith)))
 
-    pub bytes_unread : bytes_read (cut facts) ≤ n → BytesRead facts Right
+    pub bytes_unread : bytes_read (cut facts) ≤ n → BytesRead facts (Ok tt)
     unfolding read_second
     bytes_unread h =
         (short, λ limits s. rw (le-ltb FACT_BYTES (length facts) short, le-ltb (legal_bytes facts) (bytes_read (cut facts)) (omega arith)) (simp no_and))
@@ -65,7 +65,7 @@ module _ (facts : Text) where
         no_and true = refl
         no_and false = refl
 
-    pub bytes_wrong : n < length facts → n < bytes_read (cut facts) → BytesRead facts (Wrong (FactByte n))
+    pub bytes_wrong : n < length facts → n < bytes_read (cut facts) → BytesRead facts (Err (FactByte n))
     unfolding read_second
     bytes_wrong h k limits s =
         rw (le-ltb FACT_BYTES (length facts) short, lt-ltb (legal_bytes facts) (length facts) (omega arith), lt-ltb (legal_bytes facts) (bytes_read (cut facts)) (omega arith), e)

@@ -74,26 +74,19 @@ fn read_end(facts: &[u8]) -> usize
     }
 }
 
-// What rows 1 and 2 say of the bytes.
-#[derive(Clone, Copy)]
-pub enum FactsBytes {
-    Right,
-    Wrong(Refusal),
-}
-
-// "Order: 1; 2 over all lines read"
-pub fn check_bytes(facts: &[u8]) -> FactsBytes
+// Rows 1 and 2: "Order: 1; 2 over all lines read"
+pub fn check_bytes(facts: &[u8]) -> Result<(), Refusal>
     ensures { BytesRead facts.now result }
 {
     if 32768 < facts.len() {
-        return FactsBytes::Wrong(Refusal::FactsTooLong);
+        return Err(Refusal::FactsTooLong);
     }
     let legal = legal_end(facts);
     if legal == facts.len() {
-        return FactsBytes::Right;
+        return Ok(());
     }
     if legal < read_end(facts) {
-        return FactsBytes::Wrong(Refusal::FactByte(legal));
+        return Err(Refusal::FactByte(legal));
     }
-    FactsBytes::Right
+    Ok(())
 }

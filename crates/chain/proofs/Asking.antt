@@ -13,8 +13,7 @@ use Rattle.definition.specs.Limits.{FACT_BYTES, CHAIN_BYTES, document_01}
 use Rattle.definition.specs.Answer.{Answer, ok, refused, ◌>>◌, refuse_if}
 use Rattle.definition.specs.Facts.{Facts, arities, read_facts, Ascending}
 use Rattle.definition.specs.Calls.{Asked, ChainMeets, numbers_of, chain_asked, chain_meets}
-use Rattle.definition.specs.declared.Chained.{Chained}
-use Rattle.definition.specs.declared.Chained.TheVariants.{Refused as not-chained}
+use Rattle.std.specs.Prelude.{Result, Err}
 use Rattle.definition.specs.declared.Refusal.{Refusal}
 use Rattle.definition.specs.declared.Refusal.TheVariants.{NotInFacts, BufferShort}
 use Rattle.definition.specs.Meaning.{numbers}
@@ -25,8 +24,8 @@ use Rattle.parts.proofs.PositionLaws.{position_number, position_no_number}
 use Rattle.facts.specs.Reading.{all_facts, Meets}
 use Rattle.facts.specs.Words.{relations_of}
 use Rattle.facts.specs.declared.Counts.{Counts}
-use Rattle.facts.specs.declared.FactsRead.{FactsRead}
-use Rattle.facts.specs.declared.FactsRead.TheVariants.{Given, Refused}
+use Rattle.std.specs.declared.result.Result.{Result}
+use Rattle.std.specs.declared.result.Result.TheVariants.{Ok, Err}
 use Rattle.chains.specs.Search.{Searched}
 use Rattle.chains.proofs.Search.{search_meets}
 use Rattle.chain.specs.Fill.{fill}
@@ -51,9 +50,9 @@ unfolding chain_asked
 asked_refused facts r s t room row p e = rw e refl
 
 -- what reading leaves in the lent words
-module _ (facts : Text) (rs rs' us us' : List ℕ) (v : FactsRead) (m : Meets facts facts rs rs' us us' v) where
-  module _ (c : Counts) (e : v ≡ Given c) where
-    given : Meets facts facts rs rs' us us' (Given c)
+module _ (facts : Text) (rs rs' us us' : List ℕ) (v : Result Counts Refusal) (m : Meets facts facts rs rs' us us' v) where
+  module _ (c : Counts) (e : v ≡ Ok c) where
+    given : Meets facts facts rs rs' us us' (Ok c)
     given = subst (Meets facts facts rs rs' us us') e m
 
     pub relations_room : c.relations ≤ length rs'
@@ -68,17 +67,17 @@ module _ (facts : Text) (rs rs' us us' : List ℕ) (v : FactsRead) (m : Meets fa
       few = let l = length-take-le c.elements us' elements_room in omega (arith, given.2.room);
     }
 
-    pub chain_read : length rs ≡ 16 → length us ≡ 64 → (r s t : Text) (buffer : List ℕ) (q : Chained) (buffer' : List ℕ)
+    pub chain_read : length rs ≡ 16 → length us ≡ 64 → (r s t : Text) (buffer : List ℕ) (q : Result ℕ Refusal) (buffer' : List ℕ)
         → chain_meets (asked (facts_in facts (take c.relations rs') (take c.elements us')) r s t (length buffer)) r buffer q buffer'
         → ChainMeets document_01 facts r s t buffer q buffer'
     chain_read n k r s t buffer q buffer' h = record {
       meets = subst (λ (a : Answer Asked). chain_meets a r buffer q buffer') (sym (asked_read facts r s t (length buffer) _ (are_read n k).read)) h;
     }
 
-  pub chain_refused : (q : Refusal) → v ≡ Refused q → length rs ≡ 16 → length us ≡ 64 → (r s t : Text) (buffer : List ℕ) → ChainMeets document_01 facts r s t buffer (not-chained q) buffer
+  pub chain_refused : (q : Refusal) → v ≡ Err q → length rs ≡ 16 → length us ≡ 64 → (r s t : Text) (buffer : List ℕ) → ChainMeets document_01 facts r s t buffer (Err q) buffer
   chain_refused q e n k r s t buffer =
       let d = ap₂ (λ (i j : ℕ). read_facts (record { elements = j; relations = i }) facts) (sym n) (sym k) ∙ (subst (Meets facts facts rs rs' us us') e m).0 in
-      record { meets = subst (λ (a : Answer Asked). chain_meets a r buffer (not-chained q) buffer) (sym (asked_refused facts r s t (length buffer) _ _ d)) (record { answer = refl; stays = refl }) }
+      record { meets = subst (λ (a : Answer Asked). chain_meets a r buffer (Err q) buffer) (sym (asked_refused facts r s t (length buffer) _ _ d)) (record { answer = refl; stays = refl }) }
 
 -- ---- rows 15 and 16
 
@@ -127,7 +126,7 @@ module _ (f : Facts) (r s t : Text) (room : ℕ) where
 -- ---- the search in filled rows
 
 pub between : (facts : Text) (ws rs₀ : List ℕ) (r : Text) → AreRead facts rs₀ ws → (rows₀ rows : List ℕ) → rows₀ ≡ replicate (length ws) 0 → rows ≡ fill facts ws r rows₀ (all_facts facts)
-    → (a b : ℕ) (buffer : List ℕ) (c : Chained) (buffer' : List ℕ) → Searched rows a b buffer c buffer' → (rs : List ℕ) → chain_meets (asked_between (facts_in facts rs ws) r a b) r buffer c buffer'
+    → (a b : ℕ) (buffer : List ℕ) (c : Result ℕ Refusal) (buffer' : List ℕ) → Searched rows a b buffer c buffer' → (rs : List ℕ) → chain_meets (asked_between (facts_in facts rs ws) r a b) r buffer c buffer'
 unfolding asked_between
 between facts ws rs₀ r h rows₀ rows e d a b buffer c buffer' s rs =
     search_meets (facts_in facts rs ws) r rows
@@ -140,11 +139,11 @@ rows_length facts ws rs₀ r h rows₀ rows e d =
 
 -- ---- the code's tests
 
-pub refused_15 : (m : Answer Asked) (r : Text) (buffer : List ℕ) → m ≡ refused 15 0 → chain_meets m r buffer (not-chained NotInFacts) buffer
-refused_15 m r buffer e = subst (λ (k : Answer Asked). chain_meets k r buffer (not-chained NotInFacts) buffer) (sym e) (record { answer = refl; stays = refl })
+pub refused_15 : (m : Answer Asked) (r : Text) (buffer : List ℕ) → m ≡ refused 15 0 → chain_meets m r buffer (Err NotInFacts) buffer
+refused_15 m r buffer e = subst (λ (k : Answer Asked). chain_meets k r buffer (Err NotInFacts) buffer) (sym e) (record { answer = refl; stays = refl })
 
-pub refused_16 : (m : Answer Asked) (r : Text) (buffer : List ℕ) → m ≡ refused 16 0 → chain_meets m r buffer (not-chained BufferShort) buffer
-refused_16 m r buffer e = subst (λ (k : Answer Asked). chain_meets k r buffer (not-chained BufferShort) buffer) (sym e) (record { answer = refl; stays = refl })
+pub refused_16 : (m : Answer Asked) (r : Text) (buffer : List ℕ) → m ≡ refused 16 0 → chain_meets m r buffer (Err BufferShort) buffer
+refused_16 m r buffer e = subst (λ (k : Answer Asked). chain_meets k r buffer (Err BufferShort) buffer) (sym e) (record { answer = refl; stays = refl })
 
 pub short_room : (room : ℕ) → room < CHAIN_BYTES → ltb room CHAIN_BYTES ≡ true
 short_room room h = lt-ltb room CHAIN_BYTES h

@@ -14,8 +14,8 @@ ghost use Rattle.chain.specs.Asking.{asked_between, asked, facts_in, AreRead};
 
 use bits::set_bit;
 use chains::find_chain;
-use definition::{Chained, Refusal};
-use facts::{FactLine, FactsRead, Item, NextFact, next_fact, read_facts, value_start};
+use definition::Refusal;
+use facts::{FactLine, Item, next_fact, read_facts, value_start};
 use parts::{part, position_of};
 use texts::same;
 
@@ -73,14 +73,9 @@ fn fill_rows(facts: &[u8], universe: &[usize], name: &[u8], rows: &mut [u64])
     ensures { rows.new ≡ fill facts.now universe.now name.now rows.old (all_facts facts.now) }
 {
     let mut at: usize = 0;
-    loop {
-        match next_fact(facts, at) {
-            NextFact::NoMore => return,
-            NextFact::Fact(a, f, next) => {
-                add_fact(facts, universe, name, a, f, rows);
-                at = next;
-            }
-        }
+    while let Some((a, f, next)) = next_fact(facts, at) {
+        add_fact(facts, universe, name, a, f, rows);
+        at = next;
     }
 }
 
@@ -93,7 +88,7 @@ fn chain_between(
     b: usize,
     rows: &mut [u64],
     buffer: &mut [u8],
-) -> Chained
+) -> Result<usize, Refusal>
     requires by_index { (rs : List ℕ) × AreRead facts.now rs universe.now }
     requires rows_value { (rows.old ≡ replicate (length universe.now) 0) × (a < length universe.now) × (b < length universe.now) × (65 ≤ length buffer.old) }
     ensures { (rs : List ℕ) → chain_meets (asked_between (facts_in facts.now rs universe.now) name.now a b) name.now buffer.old result buffer.new }
@@ -111,45 +106,49 @@ fn chain_in(
     first: &[u8],
     second: &[u8],
     buffer: &mut [u8],
-) -> Chained
+) -> Result<usize, Refusal>
     requires { AreRead facts.now relations.now universe.now }
     ensures { chain_meets (asked (facts_in facts.now relations.now universe.now) name.now first.now second.now (length buffer.old)) name.now buffer.old result buffer.new }
 {
     if !is_binary(facts, relations, name) {
-        return Chained::Refused(Refusal::NotInFacts);
+        return Err(Refusal::NotInFacts);
     }
     let u = universe.len();
     let a = position_of(facts, facts, universe, first);
     if a == u {
-        return Chained::Refused(Refusal::NotInFacts);
+        return Err(Refusal::NotInFacts);
     }
     let b = position_of(facts, facts, universe, second);
     if b == u {
-        return Chained::Refused(Refusal::NotInFacts);
+        return Err(Refusal::NotInFacts);
     }
     if buffer.len() < 65 {
-        return Chained::Refused(Refusal::BufferShort);
+        return Err(Refusal::BufferShort);
     }
     let mut rows = [0u64; 64];
     chain_between(facts, universe, name, a, b, &mut rows[..u], buffer)
 }
 
 // "chain(facts, name, first, second, buffer)"; on refusal the buffer stays.
-pub fn chain(facts: &[u8], name: &[u8], first: &[u8], second: &[u8], buffer: &mut [u8]) -> Chained
+pub fn chain(
+    facts: &[u8],
+    name: &[u8],
+    first: &[u8],
+    second: &[u8],
+    buffer: &mut [u8],
+) -> Result<usize, Refusal>
     ensures { ChainMeets document_01 facts.now name.now first.now second.now buffer.old result buffer.new }
 {
     let mut relations = [0usize; 16];
     let mut universe = [0usize; 64];
-    match read_facts(facts, facts, &mut relations, &mut universe) {
-        FactsRead::Refused(q) => Chained::Refused(q),
-        FactsRead::Given(c) => chain_in(
-            facts,
-            &relations[..c.relations],
-            &universe[..c.elements],
-            name,
-            first,
-            second,
-            buffer,
-        ),
-    }
+    let c = read_facts(facts, facts, &mut relations, &mut universe)?;
+    chain_in(
+        facts,
+        &relations[..c.relations],
+        &universe[..c.elements],
+        name,
+        first,
+        second,
+        buffer,
+    )
 }

@@ -5,7 +5,7 @@
 ghost use Rattle.std.specs.Prelude.{◌+◌, ◌≤◌, length};
 
 use chain::chain;
-use definition::Chained;
+use definition::Refusal;
 use lines::{put, put_decimal, put_text};
 use listing::{put_bytes, untouched};
 use page::put_refusal;
@@ -19,12 +19,12 @@ fn write_line(rt: &impl Print, line: &mut [u8], n: usize) -> io::Result<()> {
 }
 
 // Puts the count, or the refusal.
-fn put_answer(line: &mut [u8], c: Chained) -> usize
+fn put_answer(line: &mut [u8], c: Result<usize, Refusal>) -> usize
     ensures { result ≤ length line.new + 1 }
 {
     match c {
-        Chained::Chain(count) => put_decimal(line, 0, count as u64, true),
-        Chained::Refused(q) => put_refusal(line, q),
+        Ok(count) => put_decimal(line, 0, count as u64, true),
+        Err(q) => put_refusal(line, q),
     }
 }
 

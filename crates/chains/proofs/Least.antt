@@ -1,16 +1,17 @@
 -- The first number that passes a test, and the least bit of a word.
-use Prim.Native.Nat.{ℕ, zero, suc, ◌+◌, ◌-◌, ◌^◌, ◌<◌, ◌≤◌}
+use Prim.Native.Nat.{ℕ, zero, suc, ◌+◌, ◌-◌, ◌/◌, ◌%◌, ◌^◌, ◌<◌, ◌≤◌}
 use mathlib.Core.Path.{◌≡◌, refl, sym, ap, subst, ◌∙◌}
 use mathlib.Core.Bool.{Bool, true, false, cond}
 use native.Mathlib.Omega.{arith}
 use native.Mathlib.Decide.{dec_lt}
 use native.Mathlib.Numerals.{add-one}
-use borrow.Author.Tests.{eq-eqb}
+use borrow.Author.Tests.{eq-eqb, ne_eqb}
+use lib.Count.{count_trailing_zeros, under}
 use lib.Dec.{T, eqb}
 use lib.Pow.{pow_pos}
 use Rattle.definition.specs.Tables.{bit}
 use Rattle.definition.proofs.BoolLaws.{apart}
-use Rattle.bits.proofs.Laws.{bit_none, bits_ext}
+use Rattle.bits.proofs.Laws.{bit_none, bit_suc, bit_zero, bits_ext}
 use Rattle.chains.specs.Levels.{least}
 
 pub least_le : (n a : ℕ) (f : ℕ → Bool) → least n a f ≤ a + n
@@ -95,3 +96,22 @@ least_set w h n = go (dec_lt (least 64 0 (bit w)) 64)
     go : Dec (least 64 0 (bit w) < 64) → bit w (least 64 0 (bit w)) ≡ true
     go (yes l) = least_passes 64 0 (bit w) l
     go (no l) = absurd (apart (sym (eq-eqb w 0 (zero_word (omega arith))) ∙ n))
+
+-- the trailing zeros of a word are below its least bit
+least_shift : (n a : ℕ) (f : ℕ → Bool) → least n (suc a) f ≡ suc (least n a (λ i. f (suc i)))
+unfolding least
+least_shift zero a f = refl
+least_shift (suc n) a f = go (f (suc a)) (least_shift n (suc a) f)
+  where
+    go : (t : Bool) → least n (suc (suc a)) f ≡ suc (least n (suc a) (λ i. f (suc i))) → cond t (suc a) (least n (suc (suc a)) f) ≡ suc (cond t a (least n (suc a) (λ i. f (suc i))))
+    go true e = refl
+    go false e = e
+
+pub trailing_least : (k w : ℕ) → count_trailing_zeros k w ≡ least k 0 (bit w)
+unfolding count_trailing_zeros least
+trailing_least zero w = refl
+trailing_least (suc k) w = go (w % 2) refl (least_shift k 0 (bit w) ∙ ap suc (least_same k 0 (λ i. bit w (suc i)) (bit (w / 2)) (λ i h l. bit_suc w i) ∙ sym (trailing_least k (w / 2))))
+  where
+    go : (d : ℕ) → w % 2 ≡ d → least k 1 (bit w) ≡ suc (count_trailing_zeros k (w / 2)) → under d (count_trailing_zeros k (w / 2)) ≡ cond (bit w 0) 0 (least k 1 (bit w))
+    go zero e r = sym (ap (λ (t : Bool). cond t 0 (least k 1 (bit w))) (bit_zero w ∙ ne_eqb (w % 2) 1 (λ z. omega arith)) ∙ r)
+    go (suc d) e r = sym (ap (λ (t : Bool). cond t 0 (least k 1 (bit w))) (bit_zero w ∙ eq-eqb (w % 2) 1 (omega arith)))

@@ -11,8 +11,8 @@ use Rattle.definition.specs.Answer.{ok, refuse_if, ◌>>◌}
 use Rattle.definition.specs.Facts.{Facts}
 use Rattle.definition.specs.Tables.{bit, holds, table, closure}
 use Rattle.definition.specs.Calls.{IsChain, FirstChain, is_pair, chain_exists, chain_meets}
-use Rattle.definition.specs.declared.Chained.{Chained}
-use Rattle.definition.specs.declared.Chained.TheVariants.{Chain as chained, Refused as not-chained}
+use Rattle.std.specs.Prelude.{Result, Ok, Err}
+use Rattle.definition.specs.declared.Refusal.{Refusal}
 use Rattle.definition.specs.declared.Refusal.TheVariants.{NoChain}
 use Rattle.definition.proofs.BoolLaws.{is_true}
 use Rattle.definition.proofs.ClosureLaws.{closure_chains}
@@ -101,7 +101,7 @@ module _ (rows : List ℕ) (a b : ℕ) (few : length rows ≤ 64) (first : a < l
     is_least : d ≡ least 64 0 met
     is_least = distance ∙ least_same 64 0 (λ k. meets row (get_or near k 0)) met (λ k h l. ap (λ (x : ℕ). meets x (get_or near k 0)) is_row ∙ ap (meets (get_or rows a 0)) (levels.at k (omega arith)))
 
-    pub search_found : d < 64 → (buffer' : List ℕ) → buffer' ≡ (a ∷ way rows (λ k. get_or near k 0) (d + 1) a) ++ drop (suc (d + 1)) buffer → Searched rows a b buffer (chained (d + 2)) buffer'
+    pub search_found : d < 64 → (buffer' : List ℕ) → buffer' ≡ (a ∷ way rows (λ k. get_or near k 0) (d + 1) a) ++ drop (suc (d + 1)) buffer → Searched rows a b buffer (Ok (d + 2)) buffer'
     search_found h buffer' e =
         let s : d + 1 ≡ suc d = omega arith in
         let chain : List ℕ = whole d is_least h in
@@ -114,15 +114,15 @@ module _ (rows : List ℕ) (a b : ℕ) (few : length rows ≤ 64) (first : a < l
         ∙ way_same rows (λ k. get_or near k 0) (level rows b) (suc d) a (λ k m. levels.at k (omega arith)) in
         record {
           meets =
-              subst (λ (t : Bool). searched t rows a b buffer (chained (d + 2)) buffer') (sym (is_true (holds u (closure u rows) (a ∷ b ∷ [])) (chain_held chain right.is_chain)))
+              subst (λ (t : Bool). searched t rows a b buffer (Ok (d + 2)) buffer') (sym (is_true (holds u (closure u rows) (a ∷ b ∷ [])) (chain_held chain right.is_chain)))
               (record { chain = chain; right = right; answer = ap ok n; written = e ∙ ap (λ (v : List ℕ). (a ∷ v) ++ drop (suc (d + 1)) buffer) w ∙ ap (λ (k : ℕ). chain ++ drop k buffer) n' });
         }
 
-    pub search_none : 64 ≤ d → Searched rows a b buffer (not-chained NoChain) buffer
+    pub search_none : 64 ≤ d → Searched rows a b buffer (Err NoChain) buffer
     search_none h =
         record {
           meets =
-              subst (λ (t : Bool). searched t rows a b buffer (not-chained NoChain) buffer) (sym none)
+              subst (λ (t : Bool). searched t rows a b buffer (Err NoChain) buffer) (sym none)
               (record { answer = refl; stays = refl });
         }
       where
@@ -163,7 +163,7 @@ module _ (f : Facts) (r : Text) (rows : List ℕ) (is-table : rows ≡ table (le
   same_answer a b = ap₂ (λ (m : ℕ) (ws : List ℕ). holds m (closure m ws) (a ∷ b ∷ [])) size is-table
 
   -- the end of the definition's chain-asked: row 17, or the facts and the two numbers
-  pub search_meets : (a b : ℕ) (buffer : List ℕ) (c : Chained) (buffer' : List ℕ) → Searched rows a b buffer c buffer'
+  pub search_meets : (a b : ℕ) (buffer : List ℕ) (c : Result ℕ Refusal) (buffer' : List ℕ) → Searched rows a b buffer c buffer'
       → chain_meets (do refuse_if (not (chain_exists f r a b)) 17 0; ok (record { facts = f; from = a; to = b })) r buffer c buffer'
   search_meets a b buffer c buffer' s = go (chain_exists f r a b) (subst (λ (t : Bool). searched t rows a b buffer c buffer') (same_answer a b) s.meets)
     where

@@ -7,8 +7,8 @@ ghost use Rattle.definition.specs.Tables.{bit};
 ghost use Rattle.chains.specs.Levels.{least, meets, before, Near, way};
 ghost use Rattle.chains.specs.Search.{Searched};
 
-use bits::{put_bit, set_bit, test_bit};
-use definition::{Chained, Refusal};
+use bits::{put_bit, set_bit};
+use definition::Refusal;
 
 // Two words have a bit in common.
 fn meets(v: u64, w: u64) -> bool
@@ -21,7 +21,7 @@ fn meets(v: u64, w: u64) -> bool
 fn row_at(rows: &[u64], x: usize) -> u64
     ensures { result ≡ get_or rows.now x 0 }
 {
-    if x < rows.len() { rows[x] } else { 0 }
+    rows.get(x).copied().unwrap_or(0)
 }
 
 // The elements that have a pair into a set.
@@ -30,9 +30,8 @@ fn before(rows: &[u64], set: u64) -> u64
     ensures { result ≡ before rows.now set }
 {
     let mut w: u64 = 0;
-    let n = rows.len();
-    for x in 0..n {
-        w = put_bit(w, x as u64, meets(rows[x], set));
+    for (x, row) in rows.iter().enumerate() {
+        w = put_bit(w, x as u64, meets(*row, set));
     }
     w
 }
@@ -43,9 +42,9 @@ fn levels(rows: &[u64], b: usize, near: &mut [u64; 64])
     ensures { Near rows.now b near.new }
 {
     let mut w = set_bit(0, b as u64);
-    for k in 0..64 {
-        near[k] = w;
-        w = w | before(rows, w);
+    for level in near.iter_mut() {
+        *level = w;
+        w |= before(rows, w);
     }
 }
 
@@ -53,28 +52,19 @@ fn levels(rows: &[u64], b: usize, near: &mut [u64; 64])
 fn first_met(row: u64, near: &[u64; 64]) -> usize
     ensures { result ≡ least 64 0 (λ k. meets row (get_or near.now k 0)) }
 {
-    let mut k: usize = 0;
-    while k < 64 {
+    for k in 0..64 {
         if meets(row, near[k]) {
             return k;
         }
-        k += 1;
     }
-    k
+    64
 }
 
 // The least bit of a word, or 64.
 fn least_bit(w: u64) -> usize
     ensures { result ≡ least 64 0 (bit w) }
 {
-    let mut b: usize = 0;
-    while b < 64 {
-        if test_bit(w, b as u64) {
-            return b;
-        }
-        b += 1;
-    }
-    b
+    w.trailing_zeros() as usize
 }
 
 // Writes a and the way down from it: in each of the n levels below, the least element that the one before has a pair with.
@@ -84,20 +74,16 @@ fn walk(rows: &[u64], near: &[u64; 64], a: usize, n: usize, buffer: &mut [u8])
 {
     buffer[0] = a as u8;
     let mut x = a;
-    let mut i: usize = 1;
-    let mut k = n;
-    while 0 < k {
-        k -= 1;
+    for k in (0..n).rev() {
         x = least_bit(row_at(rows, x) & near[k]);
-        buffer[i] = x as u8;
-        i += 1;
+        buffer[n - k] = x as u8;
     }
 }
 
 // Writes the first chain from a to b, if there is one. The level that a's row meets first is the distance of the next element, and each
 // element of the way is one level below the one before, so no number comes twice and no chain is shorter; each is the least of its level
 // that can be, so no chain as short comes before.
-pub fn find_chain(rows: &[u64], a: usize, b: usize, buffer: &mut [u8]) -> Chained
+pub fn find_chain(rows: &[u64], a: usize, b: usize, buffer: &mut [u8]) -> Result<usize, Refusal>
     requires { (length rows.now ≤ 64) × (a < length rows.now) × (b < length rows.now) × (65 ≤ length buffer.old) }
     ensures { Searched rows.now a b buffer.old result buffer.new }
 {
@@ -106,7 +92,7 @@ pub fn find_chain(rows: &[u64], a: usize, b: usize, buffer: &mut [u8]) -> Chaine
     let d = first_met(row_at(rows, a), &near);
     if d < 64 {
         walk(rows, &near, a, d + 1, buffer);
-        return Chained::Chain(d + 2);
+        return Ok(d + 2);
     }
-    Chained::Refused(Refusal::NoChain)
+    Err(Refusal::NoChain)
 }

@@ -5,7 +5,7 @@ ghost use Rattle.std.specs.Prelude.{◌+◌, ◌≤◌, length};
 
 use bits::set_bit;
 use chains::find_chain;
-use definition::Chained;
+use definition::Refusal;
 use lines::{put, put_decimal, put_text};
 use listing::put_bytes;
 use parts::part;
@@ -18,12 +18,12 @@ fn write_line(rt: &impl Print, line: &mut [u8], n: usize) -> io::Result<()> {
 }
 
 // Puts the count, if there is a chain.
-fn put_answer(line: &mut [u8], c: Chained) -> usize
+fn put_answer(line: &mut [u8], c: Result<usize, Refusal>) -> usize
     ensures { result ≤ length line.new + 1 }
 {
     match c {
-        Chained::Chain(count) => put_decimal(line, 0, count as u64, true),
-        Chained::Refused(_) => put_text(line, 0, b"none", true),
+        Ok(count) => put_decimal(line, 0, count as u64, true),
+        Err(_) => put_text(line, 0, b"none", true),
     }
 }
 

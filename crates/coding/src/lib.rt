@@ -131,13 +131,11 @@ fn set_codes<'a>(
     requires shallow { Shallow depths.now }
     ensures { Coded facts.now query.now places.now tokens.now ids.now known.now f depths.now words.now codes.new s e }
 {
-    let mut i = s;
-    while i < e {
+    for i in s..e {
         let w = word_at(words, i);
         set_code(
             facts, query, places, tokens, ids, known, f, depths, codes, w,
         );
-        i += 1;
     }
 }
 
@@ -217,18 +215,14 @@ pub fn lower<'a>(
 {
     let mut s: usize = 0;
     let mut deep: u64 = 0;
-    let mut k: usize = 0;
-    while k < words.len() {
-        let w = words[k];
-        if !actions::statement(w) {
-            k += 1;
+    for (k, w) in words.iter().enumerate() {
+        if !actions::statement(*w) {
             continue;
         }
-        deep = note_depth(ids, depths, w, deep);
+        deep = note_depth(ids, depths, *w, deep);
         lower_statement(
             facts, query, places, tokens, words, ids, known, depths, codes, fr, low, u, s, k,
         );
-        k += 1;
-        s = k;
+        s = k + 1;
     }
 }

@@ -17,7 +17,7 @@ ghost use Rattle.loading.specs.Given.{Known, Stated};
 ghost use Rattle.counting.specs.Tallies.{tallied};
 ghost use Rattle.counting.specs.FactNumbers.{fact_number, number_set};
 
-use facts::{FactLine, NextFact, next_fact};
+use facts::{FactLine, next_fact};
 use hints::hints_of;
 use loading::fact_tuple;
 use numbers::enter;
@@ -61,16 +61,12 @@ pub fn enter_facts<'a>(
     let hints = hints_of(facts, query, places);
     let mut count = n;
     let mut at: usize = 0;
-    loop {
-        match next_fact(facts, at) {
-            NextFact::NoMore => return count,
-            NextFact::Fact(a, f, next) => {
-                let v = fact_number(facts, query, relations, places, &hints, a, f);
-                count = enter(words, count, v);
-                at = next;
-            }
-        }
+    while let Some((a, f, next)) = next_fact(facts, at) {
+        let v = fact_number(facts, query, relations, places, &hints, a, f);
+        count = enter(words, count, v);
+        at = next;
     }
+    count
 }
 
 // How many of some numbers each of 16 relations has.
@@ -79,11 +75,8 @@ fn tally(numbers: &[u32]) -> [usize; 16]
     ensures { result ≡ tallied numbers.now (replicate 16 0) }
 {
     let mut counts = [0usize; 16];
-    let mut i: usize = 0;
-    while i < numbers.len() {
-        let k = (numbers[i] / 16777216 % 16) as usize;
-        counts[k] = counts[k] + 1;
-        i += 1;
+    for n in numbers {
+        counts[(n / 16777216 % 16) as usize] += 1;
     }
     counts
 }

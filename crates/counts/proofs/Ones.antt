@@ -1,46 +1,27 @@
 -- The ones of words, one word after another; a relation's count anew.
 use Prim.Native.Nat.{ℕ, ◌+◌, ◌-◌, ◌*◌, ◌^◌, ◌≤◌, ◌<◌}
-use mathlib.Core.Path.{◌≡◌, refl, sym, ap, ap₂, ◌∙◌}
+use mathlib.Core.Path.{◌≡◌, refl, sym, ap, ◌∙◌}
 use mathlib.Core.Bool.{Bool, true, false, ◌&&◌, cond}
-use mathlib.Core.List.{List, [], ◌∷◌}
-use native.Mathlib.Nat.{add-zero}
+use mathlib.Core.List.{List, [], ◌∷◌, map}
 use native.Mathlib.Numerals.{add-one}
 use native.Mathlib.Omega.{arith}
-use lib.Count.{ones, ones-le}
+use lib.Count.{ones}
 use lib.Dec.{leb, ltb}
 use lib.ListN.{length, get_or, set, take, drop, drop_of_length-le, length-take}
-use lib.Seq.{take-suc, take_all, drop-cons}
+use lib.Seq.{drop-cons}
 use borrow.Author.Tests.{le-leb, lt-leb, lt-ltb, le-ltb}
+use Rattle.std.specs.Prelude.{sum}
+use Rattle.std.proofs.lemmas.List.Sums.{sum_by-cons}
 use Rattle.definition.specs.Tables.{table_words}
-use Rattle.definition.proofs.CountLaws.{all_ones, ones_append}
+use Rattle.definition.proofs.CountLaws.{all_ones}
 use Rattle.parts.specs.Packed.{tag_of}
 use Rattle.tuples.proofs.Turns.{words_le}
 use Rattle.counts.specs.Counting.{recounted, counted}
 
-pub ones_word : (w : ℕ) → w < 18446744073709551616 → ones w ≤ 64
-ones_word w h = ones-le 64 w h
-
--- the words before i are counted
-pub record Counting (ws : List ℕ) (n i : ℕ) : Type 0 where
-  pub is : n ≡ all_ones (take i ws)
-  pub small : n ≤ i * 64
-
-pub counting_start : (ws : List ℕ) → Counting ws 0 0
+pub sum_ones : (ws : List ℕ) → sum (map ones ws) ≡ all_ones ws
 unfolding all_ones
-counting_start ws = record { is = refl; small = omega arith }
-
-pub counting_next : (ws : List ℕ) (n i r : ℕ) → Counting ws n i → i < length ws → (r ≡ ones (get_or ws i 0)) × (r ≤ 64) → Counting ws (n + r) (i + 1)
-unfolding all_ones
-counting_next ws n i r h l e =
-    record {
-      is =
-          ap₂ ◌+◌ h.is (e.0 ∙ sym (add-zero (ones (get_or ws i 0)))) ∙ sym (ones_append (take i ws) (get_or ws i 0 ∷ []))
-          ∙ ap all_ones (sym (take-suc ws i 0 l)) ∙ ap (λ (j : ℕ). all_ones (take j ws)) (sym (add-one i));
-      small = omega (arith, h.small, e.1);
-    }
-
-pub counting_end : (ws : List ℕ) (n i : ℕ) → Counting ws n i → length ws ≤ i → n ≡ all_ones ws
-counting_end ws n i h l = h.is ∙ ap all_ones (take_all i ws l)
+sum_ones [] = refl
+sum_ones (w ∷ ws) = sum_by-cons (λ n. n) (ones w) (map ones ws) ∙ ap (λ (k : ℕ). ones w + k) (sum_ones ws)
 
 -- tables of up to 4 columns are short
 pub few_words : (u n : ℕ) → u ≤ 255 → n ≤ 4 → table_words u n ≤ 16777216

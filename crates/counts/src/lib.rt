@@ -2,31 +2,17 @@
 #![tactic(auto)]
 
 ghost use Rattle.std.specs.Prelude.{◌≡◌, ◌≤◌, length, replicate};
-ghost use Rattle.std.specs.Int.Count.{ones};
 ghost use Rattle.definition.proofs.CountLaws.{all_ones};
 ghost use Rattle.counts.specs.Counting.{recounted, counted};
 
 use tuples::table_words;
-
-// The ones of a word.
-fn ones_of(w: u64) -> usize
-    ensures { (result ≡ ones w) × (result ≤ 64) }
-{
-    u64::count_ones(w) as usize
-}
 
 // The ones of some words.
 fn count_words(words: &[u64]) -> usize
     requires { length words.now ≤ 16777216 }
     ensures { result ≡ all_ones words.now }
 {
-    let mut n: usize = 0;
-    let mut i: usize = 0;
-    while i < words.len() {
-        n += ones_of(words[i]);
-        i += 1;
-    }
-    n
+    words.iter().map(|w| w.count_ones() as usize).sum()
 }
 
 // The count of relation k becomes the number of tuples of its table of arity n, whose words start at off; what is no table of the store
@@ -57,12 +43,10 @@ pub fn count_all(store: &[u64], relations: &[usize], u: u8) -> [usize; 16]
 {
     let mut counts = [0usize; 16];
     let mut off: usize = 0;
-    let mut i: usize = 0;
-    while i < relations.len() {
-        let n = relations[i] % 4;
+    for (i, w) in relations.iter().enumerate() {
+        let n = *w % 4;
         recount(store, off, u, n, i, &mut counts);
         off += table_words(u, n);
-        i += 1;
     }
     counts
 }

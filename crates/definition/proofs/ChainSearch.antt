@@ -16,7 +16,8 @@ use Rattle.definition.specs.Answer.{ok}
 use Rattle.definition.specs.Facts.{Facts}
 use Rattle.definition.specs.Tables.{tuples}
 use Rattle.definition.specs.Calls.{IsChain, FirstChain, Asked, is_pair, chain_asked, ChainFound}
-use Rattle.definition.specs.declared.Chained.{Chained}
+use Rattle.std.specs.Prelude.{Result}
+use Rattle.definition.specs.declared.Refusal.{Refusal}
 use Rattle.definition.proofs.BoolLaws.{and_left, and_right, and_both}
 use Rattle.definition.proofs.ListLaws.{Every, every_none, every_one}
 use Rattle.definition.proofs.InLaws.{In, here, there, in_keep, keep_in, every_in, in_tuples}
@@ -210,7 +211,7 @@ pub first_owed : (limits : Limits) (facts r s t : Text) (room : ℕ) (k : Asked)
 first_owed limits facts r s t room k e = let (c, h) = chain_owed limits facts r s t room k e in searched_first k.facts r k.from k.to c h
 
 -- and by that chain alone
-pub found_searched : {k : Asked} {r : Text} {buffer : List ℕ} {c : Chained} {buffer' : List ℕ} (f : ChainFound k r buffer c buffer') → f.chain ≡ first_chain k.facts r k.from k.to
+pub found_searched : {k : Asked} {r : Text} {buffer : List ℕ} {c : Result ℕ Refusal} {buffer' : List ℕ} (f : ChainFound k r buffer c buffer') → f.chain ≡ first_chain k.facts r k.from k.to
 found_searched {k} {r} f =
     first_alone (is_pair k.facts r) k.from k.to (first_chain k.facts r k.from k.to) f.chain (searched_first k.facts r k.from k.to f.chain f.right.is_chain) f.right
 

@@ -23,7 +23,8 @@ use Rattle.definition.specs.Calls.{counts_from, counts, CountsMeet, counts_meet,
 use Rattle.definition.specs.declared.Ending.{Ending}
 use Rattle.definition.specs.declared.Ending.TheVariants.{Done, Spent, Full}
 use Rattle.definition.specs.declared.Stopped.{Stopped}
-use Rattle.definition.specs.declared.Ran.{Ran}
+use Rattle.std.specs.Prelude.{Result}
+use Rattle.definition.specs.declared.Refusal.{Refusal}
 use Rattle.definition.proofs.TableLaws.{Below, holds_table}
 use Rattle.definition.proofs.TupleLaws.{keep_map, keep_gather, gather_ext, keep_singles}
 use Rattle.definition.proofs.RunLaws.{Shaped, none, one, point_shaped}
@@ -223,7 +224,7 @@ counts_of_ones limits w n = ap (λ (l : List ℕ). l ++ replicate (limits.relati
 -- ---- the counts of a run
 
 -- the point of the definition's run at which a run ended, and its counts: the numbers of tuples of the tables of that point
-pub record CountsAt (limits : Limits) (w : Accepted) (budget : ℕ) (buffer : Text) (r : Ran) (cs : List ℕ) : Type 0 where
+pub record CountsAt (limits : Limits) (w : Accepted) (budget : ℕ) (buffer : Text) (r : Result Stopped Refusal) (cs : List ℕ) : Type 0 where
   pub stopped : Stopped
   pub answer : ran_answer r ≡ ok stopped
   pub n : ℕ
@@ -239,7 +240,7 @@ counts_told : (limits : Limits) (w : Accepted) (n : ℕ) (store : List ℕ) (buf
     → Shows w (point w n) store buffer r store' buffer' → cs ≡ counts limits w store' → cs ≡ counts_of limits w (point w n).tables
 counts_told limits w n store buffer r store' buffer' cs sh h = h ∙ ap (counts limits w) sh.tables ∙ counts_at limits w store n
 
-module _ (limits : Limits) (w : Accepted) (budget : ℕ) (store : List ℕ) (buffer : Text) (q : Ran) (store' : List ℕ) (buffer' : Text) (cs : List ℕ)
+module _ (limits : Limits) (w : Accepted) (budget : ℕ) (store : List ℕ) (buffer : Text) (q : Result Stopped Refusal) (store' : List ℕ) (buffer' : Text) (cs : List ℕ)
     (h : cs ≡ counts limits w store') (r : Stopped) (a : ran_answer q ≡ ok r) (d : Ends w budget store buffer r store' buffer') where
   ended_counts : (e : Ending) → r.ending ≡ e → CountsAt limits w budget buffer q cs
   ended_counts Done e =
@@ -279,7 +280,7 @@ module _ (limits : Limits) (w : Accepted) (budget : ℕ) (store : List ℕ) (buf
         counts = counts_told limits w f.0 store buffer r store' buffer' cs f.3 h;
       }
 
-module _ (limits : Limits) (facts query : Text) (budget : ℕ) (store : List ℕ) (buffer : Text) (r : Ran) (store' : List ℕ) (buffer' : Text) (cs : List ℕ) where
+module _ (limits : Limits) (facts query : Text) (budget : ℕ) (store : List ℕ) (buffer : Text) (r : Result Stopped Refusal) (store' : List ℕ) (buffer' : Text) (cs : List ℕ) where
   -- "After any number of steps, spent and full endings included, each count equals the number of tuples in that table"
   pub run_counts : (w : Accepted) → RunMeets limits facts query budget store buffer r store' buffer' → CountsMeet limits facts query store cs store'
       → accept_store limits facts query (length store) ≡ ok w → CountsAt limits w budget buffer r cs

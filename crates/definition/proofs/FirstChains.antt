@@ -12,7 +12,8 @@ use Rattle.definition.specs.Text.{Text, same}
 use Rattle.definition.specs.Limits.{Limits, CHAIN_BYTES}
 use Rattle.definition.specs.Answer.{Answer, ok, refused}
 use Rattle.definition.specs.Calls.{FirstChain, Asked, is_pair, chain_asked, chained_answer, ChainFound, chain_meets, ChainMeets}
-use Rattle.definition.specs.declared.Chained.{Chained}
+use Rattle.std.specs.Prelude.{Result}
+use Rattle.definition.specs.declared.Refusal.{Refusal}
 use Rattle.definition.proofs.BoolLaws.{decide, not_both}
 use Rattle.definition.proofs.MeaningLaws.{same_eq, same_refl}
 use Rattle.definition.proofs.UniverseLaws.{earlier_trans, earlier_not_same}
@@ -40,11 +41,11 @@ unfolding chain_asked
 asked_alike limits facts r s t m n e = rw e refl
 
 -- the same refusal, or the same numbers at the start of both buffers
-pub record Alike (c d : Chained) (written other : List ℕ) : Type 0 where
+pub record Alike (c d : Result ℕ Refusal) (written other : List ℕ) : Type 0 where
   pub answer : chained_answer d ≡ chained_answer c
   pub numbers : (n : ℕ) → chained_answer c ≡ ok n → take n other ≡ take n written
 
-module _ (r : Text) (c d : Chained) (buffer buffer' lent lent' : List ℕ) where
+module _ (r : Text) (c d : Result ℕ Refusal) (buffer buffer' lent lent' : List ℕ) where
   one_chain : {k : Asked} (f : ChainFound k r buffer c buffer') (g : ChainFound k r lent d lent') → g.chain ≡ f.chain
   one_chain {k} f g = first_alone (is_pair k.facts r) k.from k.to f.chain g.chain f.right g.right
 
@@ -60,14 +61,14 @@ module _ (r : Text) (c d : Chained) (buffer buffer' lent lent' : List ℕ) where
       }
 
 -- two calls for one question, with buffers that are both long enough or both too short, answer alike, whatever the buffers hold
-pub answers_alike : (limits : Limits) (facts r s t : Text) (c d : Chained) (buffer buffer' lent lent' : List ℕ) → ltb (length lent) CHAIN_BYTES ≡ ltb (length buffer) CHAIN_BYTES
+pub answers_alike : (limits : Limits) (facts r s t : Text) (c d : Result ℕ Refusal) (buffer buffer' lent lent' : List ℕ) → ltb (length lent) CHAIN_BYTES ≡ ltb (length buffer) CHAIN_BYTES
     → ChainMeets limits facts r s t buffer c buffer' → ChainMeets limits facts r s t lent d lent' → Alike c d buffer' lent'
 answers_alike limits facts r s t c d buffer buffer' lent lent' e f g =
     alike r c d buffer buffer' lent lent' (chain_asked limits facts r s t (length buffer)) f.meets
     (subst (λ (m : Answer Asked). chain_meets m r lent d lent') (asked_alike limits facts r s t (length lent) (length buffer) e) g.meets)
 
 -- and with the same buffer they leave the same bytes
-pub answer_alone : (limits : Limits) (facts r s t : Text) (c d : Chained) (buffer buffer' buffer'' : List ℕ)
+pub answer_alone : (limits : Limits) (facts r s t : Text) (c d : Result ℕ Refusal) (buffer buffer' buffer'' : List ℕ)
     → ChainMeets limits facts r s t buffer c buffer' → ChainMeets limits facts r s t buffer d buffer'' → (chained_answer d ≡ chained_answer c) × (buffer'' ≡ buffer')
 answer_alone limits facts r s t c d buffer buffer' buffer'' f g =
     ((answers_alike limits facts r s t c d buffer buffer' buffer buffer'' refl f g).answer, go (chain_asked limits facts r s t (length buffer)) f.meets g.meets)

@@ -5,19 +5,11 @@ ghost use Rattle.std.specs.Prelude.{◌≡◌, ◌+◌, ◌*◌, ◌≤◌, ◌<
 ghost use Rattle.digits.specs.Packed.{has, put, plus, joined, before, without, count, none_or_in, inside};
 
 // Whether d is one of the digits.
+#[tactic(auto, unfolding(crate::specs::Packed::has))]
 pub fn has(a: u64, d: u64) -> bool
     ensures { result ≡ has a d }
 {
-    if a % 8 == d {
-        return true;
-    }
-    if a / 8 % 8 == d {
-        return true;
-    }
-    if a / 64 % 8 == d {
-        return true;
-    }
-    a / 512 % 8 == d
+    a % 8 == d || a / 8 % 8 == d || a / 64 % 8 == d || a / 512 % 8 == d
 }
 
 // The digit d at the first free place.
@@ -41,17 +33,12 @@ fn put(a: u64, d: u64) -> u64
 }
 
 // One digit more; 0 is none.
+#[tactic(auto, unfolding(crate::specs::Packed::plus))]
 pub fn add(a: u64, d: u64) -> u64
     requires { (a < 4096) × (d < 8) }
     ensures { (result ≡ plus a d) × (result < 4096) }
 {
-    if d == 0 {
-        return a;
-    }
-    if has(a, d) {
-        return a;
-    }
-    put(a, d)
+    if d == 0 || has(a, d) { a } else { put(a, d) }
 }
 
 // The digits of a, then those of b.
@@ -85,44 +72,34 @@ pub fn remove(a: u64, x: u64) -> u64
 }
 
 // How many digits.
+#[tactic(auto, unfolding(crate::specs::Packed::count))]
 pub fn count(a: u64) -> u64
     ensures { result ≡ count a }
 {
-    if a == 0 {
-        return 0;
+    match a {
+        0 => 0,
+        1..=7 => 1,
+        8..=63 => 2,
+        64..=511 => 3,
+        _ => 4,
     }
-    if a < 8 {
-        return 1;
-    }
-    if a < 64 {
-        return 2;
-    }
-    if a < 512 {
-        return 3;
-    }
-    4
 }
 
 // No digit, or one of b's.
+#[tactic(auto, unfolding(crate::specs::Packed::none_or_in))]
 fn none_or_in(d: u64, b: u64) -> bool
     ensures { result ≡ none_or_in d b }
 {
-    if d == 0 {
-        return true;
-    }
-    has(b, d)
+    d == 0 || has(b, d)
 }
 
 // Whether each digit of a is one of b's.
+#[tactic(auto, unfolding(crate::specs::Packed::inside))]
 pub fn inside(a: u64, b: u64) -> bool
     ensures { result ≡ inside a b }
 {
-    if none_or_in(a % 8, b) {
-        if none_or_in(a / 8 % 8, b) {
-            if none_or_in(a / 64 % 8, b) {
-                return none_or_in(a / 512 % 8, b);
-            }
-        }
-    }
-    false
+    none_or_in(a % 8, b)
+        && none_or_in(a / 8 % 8, b)
+        && none_or_in(a / 64 % 8, b)
+        && none_or_in(a / 512 % 8, b)
 }

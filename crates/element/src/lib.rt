@@ -8,7 +8,7 @@ ghost use Rattle.definition.specs.Calls.{part_text};
 ghost use Rattle.parts.specs.Packed.{part_of};
 ghost use Rattle.element.specs.Addresses.{address, Begins};
 
-use acceptance::{Texts, accept};
+use acceptance::accept;
 
 // The n bytes of s from offset on, or as many as there are.
 fn bytes_at(s: &[u8], offset: usize, n: usize) -> &[u8]
@@ -60,8 +60,8 @@ pub fn word_of<'a>(facts: &'a [u8], query: &'a [u8], n: usize) -> usize
         &mut relations,
         &mut places,
     ) {
-        Texts::Refused(_) => 4,
-        Texts::Accepted(s) => { if n < s.elements { places[n] } else { 4 } }
+        Err(_) => 4,
+        Ok(s) => { if n < s.elements { places[n] } else { 4 } }
     }
 }
 

@@ -13,8 +13,8 @@ use Rattle.definition.specs.Accept.{Accepted, accept, elements, words_needed}
 use Rattle.definition.specs.Assignment.{loaded}
 use Rattle.definition.specs.Claim.{store_image}
 use Rattle.definition.specs.Calls.{RunMeets, CountsMeet}
-use Rattle.definition.specs.declared.Ran.{Ran}
-use Rattle.definition.specs.declared.Ran.TheVariants.{Refused}
+use Rattle.std.specs.Prelude.{Result, Ok, Err}
+use Rattle.definition.specs.declared.Stopped.{Stopped}
 use Rattle.definition.specs.declared.RunAnswer.{RunAnswer}
 use Rattle.definition.specs.declared.Refusal.{Refusal}
 use Rattle.definition.specs.declared.Refusal.TheVariants.{StoreShort}
@@ -29,8 +29,6 @@ use Rattle.counts.proofs.All.{Tagged, no_tags, tagged, counted_loaded}
 use Rattle.loading.specs.Given.{Ready}
 use Rattle.layout.specs.Sizes.{LaidOut}
 use Rattle.acceptance.specs.declared.Sizes.{Sizes}
-use Rattle.acceptance.specs.declared.Texts.{Texts}
-use Rattle.acceptance.specs.declared.Texts.TheVariants as Texts
 use Rattle.acceptance.specs.Reading.{Reading, Sized}
 use Rattle.chain.proofs.Asking.{read_short}
 use Rattle.engine.specs.Given.{Given, Fits, Prepared, prepared, refuses}
@@ -127,19 +125,19 @@ module _ (facts query : Text) (relations places low : List ℕ) where
     pub w : Accepted
     pub fits : Fits facts query relations places low s w
 
-  pub held : {x : Texts} → Prepared facts query relations places low x → (s : Sizes) → x ≡ Texts.Accepted s → Held s
+  pub held : {x : Result Sizes Refusal} → Prepared facts query relations places low x → (s : Sizes) → x ≡ Ok s → Held s
   held (prepared {s = s'} w z) s e = let same : s' ≡ s = cc in record { w = w; fits = subst (λ (v : Sizes). Fits facts query relations places low v w) same z }
   held (refuses {q = q} h) s e = let z : ◌≡◌ {A = ℕ} 0 1 = cc in absurd (omega arith)
 
-  pub not_held : {x : Texts} → Prepared facts query relations places low x → (q : Refusal) → x ≡ Texts.Refused q → accept document_01 facts query ≡ refused (number q) (place q)
+  pub not_held : {x : Result Sizes Refusal} → Prepared facts query relations places low x → (q : Refusal) → x ≡ Err q → accept document_01 facts query ≡ refused (number q) (place q)
   not_held (prepared {s = s} w z) q e = let f : ◌≡◌ {A = ℕ} 0 1 = cc in absurd (omega arith)
   not_held (refuses {q = q'} h) q e = let same : q' ≡ q = cc in subst (λ (v : Refusal). accept document_01 facts query ≡ refused (number v) (place v)) same h
 
 -- a run that is refused
-not_answered : (facts query : Text) (budget : ℕ) (store : List ℕ) (buffer : Text) (q : Refusal) (r : RunAnswer) → NotRun q r → RunMeets document_01 facts query budget store buffer (Refused q) store buffer
+not_answered : (facts query : Text) (budget : ℕ) (store : List ℕ) (buffer : Text) (q : Refusal) (r : RunAnswer) → NotRun q r → RunMeets document_01 facts query budget store buffer (Err q) store buffer
     → CountsMeet document_01 facts query store (replicate 16 0) store → Answered facts query budget store buffer r store buffer
 not_answered facts query budget store buffer q r n m c = (
-  subst (λ (a : Ran). RunMeets document_01 facts query budget store buffer a store buffer) (sym n.0) m,
+  subst (λ (a : Result Stopped Refusal). RunMeets document_01 facts query budget store buffer a store buffer) (sym n.0) m,
   subst (λ (cs : List ℕ). CountsMeet document_01 facts query store cs store) (sym n.1) c,
 )
 
@@ -159,7 +157,7 @@ module _ (facts query : Text) (relations places low : List ℕ) (w : Accepted) (
     too_short store h buffer budget r n =
         let short : length store < words_needed w = omega (arith, l.needed) in
         not_answered facts query budget store buffer (StoreShort needed) r n
-        (subst (λ (k : ℕ). RunMeets document_01 facts query budget store buffer (Refused (StoreShort k)) store buffer) (sym l.needed) (run_short document_01 facts query budget store buffer w g.known.accepted short))
+        (subst (λ (k : ℕ). RunMeets document_01 facts query budget store buffer (Err (StoreShort k)) store buffer) (sym l.needed) (run_short document_01 facts query budget store buffer w g.known.accepted short))
         (counts_short document_01 facts query store store w g.known.accepted short)
 
     pub ready : (u : ℕ) → u ≡ length places → Ready facts query relations places firsts u w

@@ -14,7 +14,7 @@ use Rattle.definition.specs.Claim.{table_image}
 use Rattle.definition.specs.Calls.{counts_from, counts, records_from, records, no_record, check, CheckMeets}
 use Rattle.definition.specs.declared.Refusal.{Refusal}
 use Rattle.definition.specs.declared.Record.{Record}
-use Rattle.definition.specs.declared.Verdict.TheVariants as Verdict
+use Rattle.std.specs.Prelude.{Ok, Err}
 use Rattle.parts.specs.Packed.{text_of}
 use Rattle.facts.specs.Words.{relations_of}
 use Rattle.loading.specs.Given.{Known}
@@ -34,7 +34,7 @@ none_counted = refl
 
 module _ (facts query : Text) where
   pub check_refused : (q : Refusal) (rs : List Record) → rs ≡ records document_01 nothing → accept document_01 facts query ≡ refused (number q) (place q)
-      → CheckMeets document_01 facts query (record { verdict = Verdict.Refused q; records = rs })
+      → CheckMeets document_01 facts query (record { verdict = Err q; records = rs })
   unfolding check
   check_refused q rs r e = record { verdict = rw e refl; records = rw e (r ∙ no_records) }
 
@@ -44,7 +44,7 @@ module _ (facts query : Text) where
 
   pub check_accepted : (w : Accepted) (relations firsts : List ℕ) (u scratch words : ℕ) (rs : List Record) → accept document_01 facts query ≡ ok w → relations_of facts query relations ≡ w.relations
       → elements w ≡ u → LaidOut w firsts scratch words → rs ≡ records document_01 w
-      → CheckMeets document_01 facts query (record { verdict = Verdict.Accepted (record { universe = u; words = words; relations = length relations }); records = rs })
+      → CheckMeets document_01 facts query (record { verdict = Ok (record { universe = u; words = words; relations = length relations }); records = rs })
   unfolding check
   check_accepted w relations firsts u scratch words rs e f size l r =
       record {

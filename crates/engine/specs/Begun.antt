@@ -1,5 +1,5 @@
 -- What the step loop begins with: the lowered words, the tables' places, the facts' tables in the store and the numbers of their tuples.
-use Rattle.std.specs.Prelude.{ℕ, ◌≤◌, ◌≡◌, List, [], length, replicate}
+use Rattle.std.specs.Prelude.{ℕ, ◌≤◌, ◌≡◌, Err, List, [], length, replicate}
 use Rattle.definition.specs.Text.{Text}
 use Rattle.definition.specs.Limits.{document_01}
 use Rattle.definition.specs.Answer.{ok}
@@ -9,7 +9,6 @@ use Rattle.definition.specs.Run.{point}
 use Rattle.definition.specs.Claim.{store_image}
 use Rattle.definition.specs.Calls.{RunMeets, CountsMeet}
 use Rattle.definition.specs.declared.Refusal.{Refusal}
-use Rattle.definition.specs.declared.Ran.TheVariants.{Refused}
 use Rattle.definition.specs.declared.RunAnswer.{RunAnswer}
 use Rattle.definition.proofs.CountLaws.{counts_of}
 use Rattle.lines.specs.Lines.{texts}
@@ -36,7 +35,7 @@ pub record Begun (facts query : Text) (low firsts places : List ℕ) (u scratch 
 
 -- the answer of a run that is refused
 abbrev pub NotRun : Refusal → RunAnswer → Type 0
-NotRun q r = (r.ran ≡ Refused q) × (r.counts ≡ replicate 16 0)
+NotRun q r = (r.ran ≡ Err q) × (r.counts ≡ replicate 16 0)
 
 -- the two clauses of the call `run`, of a run that began with that store
 abbrev pub Answered : Text → Text → ℕ → List ℕ → Text → RunAnswer → List ℕ → Text → Type 0

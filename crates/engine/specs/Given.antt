@@ -1,5 +1,5 @@
 -- Both texts read, and the words of an accepted query lowered.
-use Rattle.std.specs.Prelude.{ℕ, ◌≤◌, ◌≡◌, List, [], length, take}
+use Rattle.std.specs.Prelude.{ℕ, ◌≤◌, ◌≡◌, List, [], length, take, Result, Ok, Err}
 use Rattle.definition.specs.Text.{Text}
 use Rattle.definition.specs.Limits.{document_01, FACT_BYTES}
 use Rattle.definition.specs.Answer.{refused, number, place}
@@ -10,8 +10,6 @@ use Rattle.lines.proofs.LineLaws.{Shows}
 use Rattle.code.specs.Program.{Code}
 use Rattle.loading.specs.Given.{Known}
 use Rattle.acceptance.specs.declared.Sizes.{Sizes}
-use Rattle.acceptance.specs.declared.Texts.{Texts}
-use Rattle.acceptance.specs.declared.Texts.TheVariants as Texts
 
 -- the relations, the universe and the lowered words of the accepted texts w, in lists as long as what they hold
 pub record Given (facts query : Text) (relations places low : List ℕ) (w : Accepted) : Type 0 where
@@ -32,6 +30,6 @@ module _ (facts query : Text) (relations places low : List ℕ) where
     pub words_inside : s.words ≤ length low
 
   -- the answer of the code: how much of the arrays that is, or the definition's refusal
-  pub data Prepared : Texts → Type 0 where
-    prepared : {s : Sizes} (w : Accepted) → Fits s w → Prepared (Texts.Accepted s)
-    refuses : {q : Refusal} → accept document_01 facts query ≡ refused (number q) (place q) → Prepared (Texts.Refused q)
+  pub data Prepared : Result Sizes Refusal → Type 0 where
+    prepared : {s : Sizes} (w : Accepted) → Fits s w → Prepared (Ok s)
+    refuses : {q : Refusal} → accept document_01 facts query ≡ refused (number q) (place q) → Prepared (Err q)

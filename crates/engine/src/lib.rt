@@ -13,11 +13,11 @@ ghost use Rattle.layout.specs.Sizes.{LaidOut};
 ghost use Rattle.engine.specs.Begun.{Begun, NotRun, Answered, no_depths};
 ghost use Rattle.engine.specs.Given.{Given, Prepared};
 
-use acceptance::{Texts, accept};
+use acceptance::{Sizes, accept};
 use coding::lower;
 use counting::count_facts;
 use counts::count_all;
-use definition::{Checked, Figures, Ran, Refusal, RunAnswer, Stopped, Verdict};
+use definition::{Checked, Figures, Refusal, RunAnswer, Stopped};
 use layout::{Room, lay, records};
 use loading::load_facts;
 use machine::{Machine, go};
@@ -28,7 +28,7 @@ fn not_passed<'a>(facts: &'a [u8], query: &'a [u8], q: Refusal) -> Checked
 {
     let none = [0usize; 1];
     Checked {
-        verdict: Verdict::Refused(q),
+        verdict: Err(q),
         records: records(facts, query, &none[..0], 0, [0usize; 16]),
     }
 }
@@ -48,7 +48,7 @@ fn passed<'a>(facts: &'a [u8], query: &'a [u8], relations: &[usize], places: &[u
     };
     let sizes = count_facts(facts, query, relations, places);
     Checked {
-        verdict: Verdict::Accepted(f),
+        verdict: Ok(f),
         records: records(facts, query, relations, u, sizes),
     }
 }
@@ -95,7 +95,7 @@ fn read<'a>(
     relations: &mut [usize],
     places: &mut [usize],
     low: &mut [u64],
-) -> Texts
+) -> Result<Sizes, Refusal>
     requires relations_len { (length relations.old ≡ 16) × (length places.old ≡ 64) × (length low.old ≡ 2048) }
     requires small { Small low.old }
     ensures { Prepared facts.now query.now relations.new places.new low.new result }
@@ -104,7 +104,7 @@ fn read<'a>(
     let mut words = [0u64; 2048];
     let mut ids = [0u64; 2048];
     let mut known = [0u64; 2064];
-    match accept(
+    let s = accept(
         facts,
         query,
         &mut tokens,
@@ -114,23 +114,19 @@ fn read<'a>(
         low,
         relations,
         places,
-    ) {
-        Texts::Refused(q) => Texts::Refused(q),
-        Texts::Accepted(s) => {
-            translate(
-                facts,
-                query,
-                &tokens[..s.tokens],
-                &words[..s.words],
-                &ids,
-                &known,
-                &places[..s.elements],
-                s.elements as u8,
-                low,
-            );
-            Texts::Accepted(s)
-        }
-    }
+    )?;
+    translate(
+        facts,
+        query,
+        &tokens[..s.tokens],
+        &words[..s.words],
+        &ids,
+        &known,
+        &places[..s.elements],
+        s.elements as u8,
+        low,
+    );
+    Ok(s)
 }
 
 // Whether the texts are accepted, and what their tables need.
@@ -141,8 +137,8 @@ pub fn check<'a>(facts: &'a [u8], query: &'a [u8]) -> Checked
     let mut places = [0usize; 64];
     let mut low = [0u64; 2048];
     match read(facts, query, &mut relations, &mut places, &mut low) {
-        Texts::Refused(q) => not_passed(facts, query, q),
-        Texts::Accepted(s) => passed(
+        Err(q) => not_passed(facts, query, q),
+        Ok(s) => passed(
             facts,
             query,
             &relations[..s.relations],
@@ -156,7 +152,7 @@ fn not_run(q: Refusal) -> RunAnswer
     ensures { NotRun q result }
 {
     RunAnswer {
-        ran: Ran::Refused(q),
+        ran: Err(q),
         counts: [0usize; 16],
     }
 }
@@ -206,7 +202,7 @@ fn steps<'a>(
     );
     let ending = r.ending;
     RunAnswer {
-        ran: Ran::Ended(Stopped {
+        ran: Ok(Stopped {
             ending,
             steps: r.machine.steps,
             written: r.machine.used,
@@ -291,8 +287,8 @@ pub fn run<'a>(
     let mut places = [0usize; 64];
     let mut low = [0u64; 2048];
     match read(facts, query, &mut relations, &mut places, &mut low) {
-        Texts::Refused(q) => not_run(q),
-        Texts::Accepted(s) => with_texts(
+        Err(q) => not_run(q),
+        Ok(s) => with_texts(
             facts,
             query,
             &relations[..s.relations],

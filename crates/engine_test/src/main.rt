@@ -3,7 +3,7 @@
 // query; then what the calls answer and how many bytes of the output are as they were lent, or how many tuples each relation has.
 #![tactic(auto)]
 
-use definition::{Checked, Figures, Ran, Record, Stopped, Verdict};
+use definition::{Checked, Figures, Record, Refusal, Stopped};
 use lines::{put, put_text};
 use listing::untouched;
 use page::{put_ending, put_number, put_refusal, shown};
@@ -23,10 +23,10 @@ fn put_stopped(line: &mut [u8], s: Stopped) -> usize {
     put_number(line, n, s.written as u64)
 }
 
-fn put_run(line: &mut [u8], r: Ran) -> usize {
+fn put_run(line: &mut [u8], r: Result<Stopped, Refusal>) -> usize {
     match r {
-        Ran::Ended(s) => put_stopped(line, s),
-        Ran::Refused(q) => put_refusal(line, q),
+        Ok(s) => put_stopped(line, s),
+        Err(q) => put_refusal(line, q),
     }
 }
 
@@ -93,10 +93,10 @@ fn put_figures(line: &mut [u8], f: Figures) -> usize {
     put_number(line, w, f.relations as u64)
 }
 
-fn put_verdict(line: &mut [u8], v: Verdict) -> usize {
+fn put_verdict(line: &mut [u8], v: Result<Figures, Refusal>) -> usize {
     match v {
-        Verdict::Accepted(f) => put_figures(line, f),
-        Verdict::Refused(q) => put_refusal(line, q),
+        Ok(f) => put_figures(line, f),
+        Err(q) => put_refusal(line, q),
     }
 }
 
@@ -116,8 +116,8 @@ fn put_checked(line: &mut [u8], c: Checked) -> usize {
     let v = c.verdict;
     let rs = c.records;
     let mut n = put_verdict(line, v);
-    for i in 0..16 {
-        n = put_record(line, n, rs[i]);
+    for r in rs {
+        n = put_record(line, n, r);
     }
     n
 }
@@ -133,8 +133,8 @@ fn check<'a>(rt: &impl Print, case: &[u8], facts: &'a [u8], query: &'a [u8]) -> 
 // The numbers of tuples, unused ones too.
 fn put_counts(line: &mut [u8], at: usize, counts: [usize; 16]) -> usize {
     let mut n = put(line, at, b',', true);
-    for i in 0..16 {
-        n = put_number(line, n, counts[i] as u64);
+    for k in counts {
+        n = put_number(line, n, k as u64);
     }
     n
 }

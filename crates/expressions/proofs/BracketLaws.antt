@@ -1,4 +1,5 @@
 -- What stands in brackets at a level of its own: groups, closures, counts, quantifiers.
+use Rattle.std.specs.Prelude.{Ok, Err}
 use mathlib.Core.Bool.{Bool, true, false}
 use mathlib.Core.List.{List, [], ◌∷◌, ◌++◌, map, append_assoc, append-nil}
 use mathlib.Core.Logic.{◌⊎◌, ⊎_elim}
@@ -23,9 +24,9 @@ use Rattle.lexer.specs.Tokens.{NAME}
 use Rattle.terms.proofs.AtomLaws.{refused}
 use Rattle.terms.proofs.TokenLaws.{kind_within, key_first, key_then, mark_first, name_first, name_then, name_number, not_key, not_name, closed_cases}
 use Rattle.terms.proofs.WriteLaws.{wrote_then, wrote_as}
-use Rattle.terms.specs.declared.Answer.{Answer}
-use Rattle.terms.specs.declared.Answer.TheVariants.{Read, Refused}
-use Rattle.terms.specs.Phrases.{kind_in, seen, closed, Holds, Wrote, Meaning, Parsed, IsPrimary, IsExpression}
+use Rattle.terms.specs.declared.ParseError.{ParseError}
+use Rattle.terms.specs.declared.ParseError.TheVariants.{NoProgram, TooMuch}
+use Rattle.terms.specs.Phrases.{Answer, row_of, token_of, kind_in, seen, closed, Holds, Wrote, Meaning, Parsed, IsPrimary, IsExpression}
 use Rattle.terms.specs.Terms.{Plain}
 use Rattle.words.proofs.Sizes.{length_flat}
 use Rattle.words.specs.Fields.{word, ATTRIBUTE, EXISTS, FOR_ALL, CLOSURE, COUNT}
@@ -44,8 +45,8 @@ pub data Unclosed (ws : List ℕ) (d p : ℕ) : ℕ → ℕ → Type 0 where
   no_close : {q : ℕ} (t : Tree Expression) → Reads (suc d) (phrase Expression ∷ []) (drop p (seen ws)) (t, tt) (drop q (seen ws)) → (kind_in ws q ≡ RPAREN → ⊥) → Unclosed ws d p 10 q
 
 abbrev pub inside : List ℕ → List Token → ℕ → ℕ → ℕ → List ℕ → List ℕ → Answer → Type 0
-inside ws ts p n d A A' (Read q m) = Inside ws ts p n d A A' q m
-inside ws ts p n d A A' (Refused row q) = Unclosed ws d p row q
+inside ws ts p n d A A' (Ok (q, m)) = Inside ws ts p n d A A' q m
+inside ws ts p n d A A' (Err why) = Unclosed ws d p (row_of why) (token_of why)
 
 -- two tokens more than words
 pub record Closed (ws : List ℕ) (p n q m : ℕ) : Type 0 where
@@ -54,8 +55,8 @@ pub record Closed (ws : List ℕ) (p n q m : ℕ) : Type 0 where
   pub within : q ≤ length ws
 
 abbrev pub closed_far : List ℕ → ℕ → ℕ → Answer → Type 0
-closed_far ws p n (Read q m) = Closed ws p n q m
-closed_far ws p n (Refused row q) = q ≤ length ws
+closed_far ws p n (Ok (q, m)) = Closed ws p n q m
+closed_far ws p n (Err why) = token_of why ≤ length ws
 
 pub record InBrackets (ws : List ℕ) (p n d : ℕ) (A A' : List ℕ) (b : Answer) : Type 0 where
   pub bounds : closed_far ws p n b
@@ -65,13 +66,13 @@ pub brackets_close : {ws : List ℕ} {p n d : ℕ} {A A' : List ℕ} {a b : Answ
 brackets_close {ws} {p} {n} {d} {A} {A'} {a} {b} h e = subst (InBrackets ws p n d A A') (sym e) (by a (let k : d + 1 ≡ suc d = omega arith in subst (λ d. IsExpression ws p n d A A' a) k h))
   where
     by : (a : Answer) → IsExpression ws p n (suc d) A A' a → InBrackets ws p n d A A' (closed ws RPAREN a)
-    by (Read q m) h = closed_cases (InBrackets ws p n d A A') ws RPAREN q m
+    by (Ok (q, m)) h = closed_cases (InBrackets ws p n d A A') ws RPAREN q m
         (λ e. let l = kind_within ws q (omega arith) in let o = h.bounds in record {
           bounds = record { more = o.more; paid = omega arith; within = omega arith };
           at = λ ts g. let f = h.at ts g in record { tree = f.tree; at = q; reads = f.reads; bracket = key_first ws q e (omega arith); wrote = f.wrote };
         })
         (λ e. record { bounds = h.bounds.within; at = λ ts g. let f = h.at ts g in no_close f.tree f.reads e })
-    by (Refused row q) h = record { bounds = h.bounds; at = λ ts g. body_fails (h.at ts g) }
+    by (Err why) h = record { bounds = h.bounds; at = λ ts g. body_fails (h.at ts g) }
 
 -- a group
 group_said : (ts : List Token) (t : Tree Expression) → says ts t ≡ says ts (Grammar.group t)
@@ -82,7 +83,7 @@ pub group_reads : {ws : List ℕ} {p n d : ℕ} {A A' : List ℕ} {b : Answer} �
 group_reads {ws} {p} {n} {d} {A} {A'} {b} l e h = by b h
   where
     by : (b : Answer) → InBrackets ws (p + 1) n d A A' b → IsPrimary ws p n d A A' b
-    by (Read q m) h =
+    by (Ok (q, m)) h =
         let o = h.bounds in
         record {
           bounds = record { more = o.more; paid = omega arith; within = o.within };
@@ -92,13 +93,13 @@ group_reads {ws} {p} {n} {d} {A} {A'} {b} l e h = by b h
             wrote = wrote_as (ap (λ e. flat e n) (group_said ts f.tree)) f.wrote;
           };
         }
-    by (Refused row q) h = record { bounds = h.bounds; at = λ ts g. stopped (h.at ts g) }
+    by (Err why) h = record { bounds = h.bounds; at = λ ts g. stopped (h.at ts g) }
       where
         stopped : {row q : ℕ} → Unclosed ws d (p + 1) row q → Fails d (phrase Primary ∷ []) (drop p (seen ws)) row (drop q (seen ws))
         stopped (body_fails f) = fail! group_rule (omega arith) (key_first ws p e (omega arith)) (stop! f)
         stopped (no_close {q} t f u) = fail! group_rule (omega arith) (key_first ws p e (omega arith)) (f ▹ stop! (no_token! (not_key ws q u)))
 
-pub group_deep : {ws : List ℕ} {p n d : ℕ} {A B : List ℕ} → 32 ≤ d → kind_in ws p ≡ LPAREN → IsPrimary ws p n d A B (Refused 13 p)
+pub group_deep : {ws : List ℕ} {p n d : ℕ} {A B : List ℕ} → 32 ≤ d → kind_in ws p ≡ LPAREN → IsPrimary ws p n d A B (Err (TooMuch p))
 group_deep {ws} {p} l e = let i = kind_within ws p (omega arith) in refused (omega arith) (deep! group_rule (omega arith) (key_first ws p e (omega arith)))
 
 -- what stands before an expression in brackets
@@ -142,11 +143,11 @@ module _ (ws : List ℕ) (p n d k : ℕ) (A : List ℕ) (c : Applies (kind_in ws
   both : (B : List ℕ) (r : Answer) → ((x : Nonterminal) (e : Meaning x) → AppliedLaw (kind_in ws p) k x e → Parsed x e ws p n d A B r) → Applied ws p n d k A B r
   both B r f = let h = by_law (λ x e. Parsed x e ws p n d A B r) c f in record { closure = h.0; count = h.1 }
 
-  pub applied_deep : {B : List ℕ} → 32 ≤ d → Applied ws p n d k A B (Refused 13 p)
-  applied_deep {B} l = let i = applied_within in both B (Refused 13 p) (λ x e w. refused (omega arith) (deep! w.takes (omega arith) (w.first ws p refl)))
+  pub applied_deep : {B : List ℕ} → 32 ≤ d → Applied ws p n d k A B (Err (TooMuch p))
+  applied_deep {B} l = let i = applied_within in both B (Err (TooMuch p)) (λ x e w. refused (omega arith) (deep! w.takes (omega arith) (w.first ws p refl)))
 
-  pub applied_open : {B : List ℕ} → d < 32 → (kind_in ws (p + 1) ≡ LPAREN → ⊥) → Applied ws p n d k A B (Refused 10 (p + 1))
-  applied_open {B} l u = let i = applied_within in both B (Refused 10 (p + 1)) (λ x e w. refused (omega arith) (fail! w.takes (omega arith) (w.first ws p refl) (stop! (no_token! (not_key ws (p + 1) u)))))
+  pub applied_open : {B : List ℕ} → d < 32 → (kind_in ws (p + 1) ≡ LPAREN → ⊥) → Applied ws p n d k A B (Err (NoProgram (p + 1)))
+  applied_open {B} l u = let i = applied_within in both B (Err (NoProgram (p + 1))) (λ x e w. refused (omega arith) (fail! w.takes (omega arith) (w.first ws p refl) (stop! (no_token! (not_key ws (p + 1) u)))))
 
   pub applied_reads : {A₁ A₂ : List ℕ} {b r : Answer} → d < 32 → kind_in ws (p + 1) ≡ LPAREN → InBrackets ws (p + 2) n d A A₁ b → Wrapped k A₁ A₂ b r → Applied ws p n d k A A₂ r
   applied_reads {A₁} {A₂} {b} {r} l u h j = both A₂ r (λ x e w. by x e w b h j)
@@ -159,7 +160,7 @@ module _ (ws : List ℕ) (p n d k : ℕ) (A : List ℕ) (c : Applies (kind_in ws
       stopped w (no_close {q} t f v) = fail! w.takes (omega arith) (w.first ws p refl) (opened ▹ f ▹ stop! (no_token! (not_key ws q v)))
 
       by : (x : Nonterminal) (e : Meaning x) → AppliedLaw (kind_in ws p) k x e → (b : Answer) → InBrackets ws (p + 2) n d A A₁ b → Wrapped k A₁ A₂ b r → Parsed x e ws p n d A A₂ r
-      by x e w (Read q m) h j =
+      by x e w (Ok (q, m)) h j =
           let o = h.bounds in
           subst (Parsed x e ws p n d A A₂) (sym j.0) (record {
             bounds = record { more = omega arith; paid = omega arith; within = o.within };
@@ -169,7 +170,7 @@ module _ (ws : List ℕ) (p n d k : ℕ) (A : List ℕ) (c : Applies (kind_in ws
               wrote = subst (Wrote A n (flat (e ts (w.tree f.tree)) n) (m + 1)) (sym j.1) (wrote_as (ap (λ e. flat e n) (w.said ts f.tree)) (one_wrote k w.op w.words (says ts f.tree) f.wrote));
             };
           })
-      by x e w (Refused row q) h j = subst (Parsed x e ws p n d A A₂) (sym j) (record { bounds = h.bounds; at = λ ts g. stopped w (h.at ts g) })
+      by x e w (Err why) h j = subst (Parsed x e ws p n d A A₂) (sym j) (record { bounds = h.bounds; at = λ ts g. stopped w (h.at ts g) })
 
 -- the attributes of a quantifier and its body
 abbrev nest : List ℕ → Tree Expression → Tree Quantified
@@ -280,7 +281,7 @@ bound_wrote {k = k} q ts {vs = vs} i g e {n} {m} {l} {A} {A₁} {A₂} f h =
     let last : Wrote A₂ l (binders k (m - n) n l) (l + (m - n)) (sets A₂ l (binders k (m - n) n l)) = record { is = refl; many = ap (λ j. l + j) (sym (length_binders k (m - n) n l)) } in
     wrote_as (append_assoc (map attribute vs) (flat e m) _ ∙ ap (λ j. map attribute vs ++ (flat e j ++ binders k (m - n) n l)) x ∙ ap (λ j. map attribute vs ++ (flat e (n + length vs) ++ binders k j n l)) z ∙ ap (λ j. map attribute vs ++ (flat e (n + length vs) ++ binders k (length vs) n j)) y ∙ sym (names_words q ts i g e n)) (wrote_then (wrote_then f h) last)
 
-pub bound_of : {ws : List ℕ} {p n q m : ℕ} {A A' : List ℕ} {a : Answer} → IsBound ws p n A A' a → a ≡ Read q m → Bound ws p n A A' q m
+pub bound_of : {ws : List ℕ} {p n q m : ℕ} {A A' : List ℕ} {a : Answer} → IsBound ws p n A A' a → a ≡ Ok (q, m) → Bound ws p n A A' q m
 bound_of h e = rw e at h.is
 
 module _ (ws : List ℕ) (p n d k : ℕ) (A : List ℕ) (u : Quantifier (kind_in ws p) k) where
@@ -290,24 +291,24 @@ module _ (ws : List ℕ) (p n d k : ℕ) (A : List ℕ) (u : Quantifier (kind_in
   pub quantifier_within : p < length ws
   quantifier_within = kind_within ws p (omega (arith, law.low))
 
-  pub quantifier_deep : {B : List ℕ} → 32 ≤ d → IsPrimary ws p n d A B (Refused 13 p)
+  pub quantifier_deep : {B : List ℕ} → 32 ≤ d → IsPrimary ws p n d A B (Err (TooMuch p))
   quantifier_deep l = let i = quantifier_within in refused (omega arith) (deep! law.takes (omega arith) (key_first ws p refl law.low))
 
   module _ {A₁ : List ℕ} {a : Answer} (l : d < 32) (h : IsBound ws (p + 1) n A A₁ a) where
     within_33 : suc d ≤ 32
     within_33 = omega arith
 
-    pub quantifier_unbound : {row q : ℕ} → a ≡ Refused row q → {B : List ℕ} → IsPrimary ws p n d A B a
-    quantifier_unbound {row} {q} i =
+    pub quantifier_unbound : {why : ParseError} → a ≡ Err why → {B : List ℕ} → IsPrimary ws p n d A B (Err why)
+    quantifier_unbound i =
         let e = subst (bound ws (p + 1) n A A₁) i h.is in
-        rw (i, e.0) (refused e.1.1 (fail! law.takes within_33 (key_first ws p refl law.low) (at e.1.0)))
+        refused e.1.1 (rw e.0 (fail! law.takes within_33 (key_first ws p refl law.low) (at e.1.0)))
       where
         at : {q : ℕ} → Unbound ws (p + 1) q → Fails d (fixed LPAREN ∷ identifier ∷ fixed COMMA ∷ phrase Quantified ∷ fixed RPAREN ∷ level_end ∷ []) (drop (p + 1) (seen ws)) 10 (drop q (seen ws))
         at (no_bracket e) = stop! (no_token! (not_key ws (p + 1) e))
         at (no_name e f) = token! within_33 (key_first ws (p + 1) e (omega arith)) ▹ stop! (no_name! (not_name ws (p + 1 + 1) f))
         at (no_comma e f g) = token! within_33 (key_first ws (p + 1) e (omega arith)) ▹ name! within_33 (name_then ws (p + 1 + 1) (p + 1 + 2) (omega arith) f) ▹ stop! (no_token! (not_key ws (p + 1 + 2) g))
 
-    module _ {q m : ℕ} (i : a ≡ Read q m) where
+    module _ {q m : ℕ} (i : a ≡ Ok (q, m)) where
       b : Bound ws (p + 1) n A A₁ q m
       b = bound_of h i
 
@@ -327,7 +328,7 @@ module _ (ws : List ℕ) (p n d k : ℕ) (A : List ℕ) (u : Quantifier (kind_in
       quantifier_reads {A₂} {A₃} {c} {r} v j = by c v j
         where
           by : (c : Answer) → InBrackets ws q m d A₁ A₂ c → Binds k n m A₂ A₃ c r → IsPrimary ws p n d A A₃ r
-          by (Read q' l') v j =
+          by (Ok (q', l')) v j =
               let o = v.bounds in
               subst (IsPrimary ws p n d A A₃) (sym j.0) (record {
                 bounds = record { more = omega (arith, b.some); paid = omega (arith, b.some, b.paid); within = o.within };
@@ -337,7 +338,7 @@ module _ (ws : List ℕ) (p n d k : ℕ) (A : List ℕ) (u : Quantifier (kind_in
                   wrote = subst (Wrote A n (flat (says ts (law.tree (p + 1 + 1) (nest first.rest f.tree))) n) (l' + (m - n))) (sym j.1) (wrote_as (ap (λ e. flat e n) (ap (λ vs. over_all law.op ts vs (says ts f.tree)) first.is ∙ ap (law.op (token_at ts (p + 1 + 1))) (sym (nest_said law.op ts first.rest f.tree)) ∙ sym (law.said ts (p + 1 + 1) (nest first.rest f.tree)))) (bound_wrote law ts b.more g (says ts f.tree) b.wrote f.wrote));
                 };
               })
-          by (Refused row q') v j = subst (IsPrimary ws p n d A A₃) (sym j) (record { bounds = v.bounds; at = λ ts g. stopped (v.at ts g) })
+          by (Err why) v j = subst (IsPrimary ws p n d A A₃) (sym j) (record { bounds = v.bounds; at = λ ts g. stopped (v.at ts g) })
             where
               stopped : {row q' : ℕ} → Unclosed ws d q row q' → Fails d (phrase Primary ∷ []) (drop p (seen ws)) row (drop q' (seen ws))
               stopped (body_fails f) = fail! law.takes within_33 (key_first ws p refl law.low) (head_fails within_33 (stop! (names_fail names within_33 f)))
@@ -347,15 +348,15 @@ pub bind_room : {ws : List ℕ} {p n q m d k M : ℕ} {A A₁ A₂ A₃ : List �
 bind_room {ws} {p} {n} {q} {m} {d} {k} {M} {c = c} s b v used small room = by c v.bounds
   where
     by : (c : Answer) → closed_far ws q m c → BindRoom M k n m c
-    by (Read q' l) o = record { small_kind = s; order = omega (arith, b.some); body = o.more; room = omega (arith, b.some, b.paid, o.paid, o.within); small = omega (arith, b.some, b.paid, o.paid, o.within) }
-    by (Refused row q') o = tt
+    by (Ok (q', l)) o = record { small_kind = s; order = omega (arith, b.some); body = o.more; room = omega (arith, b.some, b.paid, o.paid, o.within); small = omega (arith, b.some, b.paid, o.paid, o.within) }
+    by (Err why) o = tt
 
 pub closed_room : {ws : List ℕ} {p n d M : ℕ} {A A' : List ℕ} {b : Answer} (k : ℕ) → InBrackets ws p n d A A' b → k < 256 → n ≤ p → length ws ≤ 2048 → length ws ≤ M → WrapRoom M k b
 closed_room {ws} {p} {n} {M = M} {b = b} k v hk hp hl hm = by b v.bounds
   where
     by : (b : Answer) → closed_far ws p n b → WrapRoom M k b
-    by (Read q l) o = record { kind = hk; sign = omega arith; left = omega (arith, o.more); order = omega arith; room = omega (arith, o.paid, o.within); small = omega (arith, o.paid, o.within) }
-    by (Refused row q) o = tt
+    by (Ok (q, l)) o = record { kind = hk; sign = omega arith; left = omega (arith, o.more); order = omega arith; room = omega (arith, o.paid, o.within); small = omega (arith, o.paid, o.within) }
+    by (Err why) o = tt
 
 -- by the kind of the first token
 pub ex_here : {t : ℕ} → t ≡ EX → Quantifier t EXISTS

@@ -1,4 +1,5 @@
 -- Operands and the signs between them: comparison, -> and <->, | and &, and !.
+use Rattle.std.specs.Prelude.{Ok, Err}
 use mathlib.Core.List.{List, [], ◌∷◌, ◌++◌, append_assoc}
 use mathlib.Core.Path.{◌≡◌, refl, ap, sym, subst, ◌∙◌}
 use native.Mathlib.Omega.{arith}
@@ -17,19 +18,19 @@ use Rattle.lexer.specs.Tokens.{sign_of}
 use Rattle.terms.proofs.AtomLaws.{refused}
 use Rattle.terms.proofs.TokenLaws.{kind_within, key_first, sign_first, sign_code, not_key, not_sign, begins_none}
 use Rattle.terms.proofs.WriteLaws.{wrote_then, wrote_next, wrote_as}
-use Rattle.terms.specs.declared.Answer.{Answer}
-use Rattle.terms.specs.declared.Answer.TheVariants.{Read, Refused}
-use Rattle.terms.specs.Phrases.{kind_in, seen, Holds, Wrote, Meaning, Got, parsed, Paid, far, Parsed, IsNegation, IsPrimary, IsConjunction, IsDisjunction, IsImplication, IsExpression}
+use Rattle.terms.specs.declared.ParseError.{ParseError}
+use Rattle.terms.specs.declared.ParseError.TheVariants.{TooMuch}
+use Rattle.terms.specs.Phrases.{Answer, row_of, token_of, kind_in, seen, Holds, Wrote, Meaning, Got, parsed, Paid, far, Parsed, IsNegation, IsPrimary, IsConjunction, IsDisjunction, IsImplication, IsExpression}
 use Rattle.terms.specs.Terms.{NoQuantity}
 use Rattle.words.proofs.Sizes.{length_flat}
 use Rattle.words.specs.Fields.{word, NEGATION, CONJUNCTION, DISJUNCTION, IMPLICATION, EQUIVALENCE, COMPARISON}
 use Rattle.words.specs.Raw.{flat, size, over, sign_number}
 
 -- what an answer says, where it is known
-pub paid_of : {x : Nonterminal} {e : Meaning x} {ws : List ℕ} {p n d q m : ℕ} {A A' : List ℕ} {a : Answer} → Parsed x e ws p n d A A' a → a ≡ Read q m → Paid ws p n q m
+pub paid_of : {x : Nonterminal} {e : Meaning x} {ws : List ℕ} {p n d q m : ℕ} {A A' : List ℕ} {a : Answer} → Parsed x e ws p n d A A' a → a ≡ Ok (q, m) → Paid ws p n q m
 paid_of {ws = ws} {p} {n} h i = subst (far ws p n) i h.bounds
 
-pub got_of : {x : Nonterminal} {e : Meaning x} {ws : List ℕ} {p n d q m : ℕ} {A A' : List ℕ} {a : Answer} → Parsed x e ws p n d A A' a → a ≡ Read q m → (ts : List Token) → Holds ws ts → Got x e ws ts p n d A A' q m
+pub got_of : {x : Nonterminal} {e : Meaning x} {ws : List ℕ} {p n d q m : ℕ} {A A' : List ℕ} {a : Answer} → Parsed x e ws p n d A A' a → a ≡ Ok (q, m) → (ts : List Token) → Holds ws ts → Got x e ws ts p n d A A' q m
 got_of {x} {e} {ws} {p} {n} {d} {A = A} {A'} h i ts g = subst (parsed x e ws ts p n d A A') i (h.at ts g)
 
 -- an operator: its word stands over those of its operands
@@ -72,14 +73,14 @@ pub record Tail (x y z : Nonterminal) (ex : Meaning x) (ey : Meaning y) (l : Lis
   pub said_none : (ts : List Token) (e : Syntax.Expression) → ez ts none e ≡ e
 
 module _ {x y z : Nonterminal} {ex : Meaning x} {ey : Meaning y} {ws : List ℕ} {p : ℕ} (t : Tail x y z ex ey (drop p (seen ws))) {n d : ℕ} {A A₁ : List ℕ} {a : Answer} (h : Parsed y ey ws p n d A A₁ a) where
-  pub tail_stops : {row q : ℕ} → a ≡ Refused row q → Parsed x ex ws p n d A A₁ a
-  tail_stops {row} {q} i = record {
-    bounds = h.bounds;
-    at = λ ts g. subst (parsed x ex ws ts p n d A A₁) (sym i) (as_fails! t.stands (stop! (subst (parsed y ey ws ts p n d A A₁) i (h.at ts g))));
+  pub tail_stops : {why : ParseError} → a ≡ Err why → Parsed x ex ws p n d A A₁ (Err why)
+  tail_stops i = record {
+    bounds = subst (far ws p n) i h.bounds;
+    at = λ ts g. (as_fails! t.stands (stop! (subst (parsed y ey ws ts p n d A A₁) i (h.at ts g))));
   }
 
-  module _ {q m : ℕ} (i : a ≡ Read q m) where
-    pub tail_none : Reads d (phrase z ∷ []) (drop q (seen ws)) (t.none, tt) (drop q (seen ws)) → Parsed x ex ws p n d A A₁ (Read q m)
+  module _ {q m : ℕ} (i : a ≡ Ok (q, m)) where
+    pub tail_none : Reads d (phrase z ∷ []) (drop q (seen ws)) (t.none, tt) (drop q (seen ws)) → Parsed x ex ws p n d A A₁ (Ok (q, m))
     tail_none f = record {
       bounds = paid_of h i;
       at = λ ts g. let b = got_of h i ts g in record {
@@ -94,7 +95,7 @@ module _ {x y z : Nonterminal} {ex : Meaning x} {ey : Meaning y} {ws : List ℕ}
     tail_joins {w} {ew} {u} {k} {s} {op} some rule told o l within e {A₂} {A₃} {b} {r} v j = by b v j
       where
         by : (b : Answer) → Parsed w ew ws (q + 1) m d A₁ A₂ b → Joined k m s A₂ A₃ b r → Parsed x ex ws p n d A A₃ r
-        by (Read q' l') v j =
+        by (Ok (q', l')) v j =
             let c = paid_of h i in
             let c' = v.bounds in
             subst (Parsed x ex ws p n d A A₃) (sym j.0) (record {
@@ -105,7 +106,7 @@ module _ {x y z : Nonterminal} {ex : Meaning x} {ey : Meaning y} {ws : List ℕ}
                 wrote = subst (Wrote A n (flat (ex ts (t.make f.tree (some f'.tree))) n) (l' + 1)) (sym j.1) (wrote_as (ap (λ e. flat e n) (sym (t.said ts f.tree (some f'.tree) ∙ told ts f'.tree (ey ts f.tree)))) (both_wrote o (ey ts f.tree) (ew ts f'.tree) f.wrote f'.wrote));
               };
             })
-        by (Refused row q') v j = subst (Parsed x ex ws p n d A A₃) (sym j) (record {
+        by (Err why) v j = subst (Parsed x ex ws p n d A A₃) (sym j) (record {
           bounds = v.bounds;
           at = λ ts g. let f = got_of h i ts g in as_fails! t.stands (f.reads ▹ stop! (fail! rule l e (stop! (v.at ts g))));
         })
@@ -137,8 +138,8 @@ pub record Link {y z : ℕ → Nonterminal} {ey : (k : ℕ) → Meaning (y k)} {
   pub wrote : Wrote A n (flat sofar n) m A'
 
 abbrev pub linked : {y z : ℕ → Nonterminal} {ey : (k : ℕ) → Meaning (y k)} {ez : (k : ℕ) → List Token → Tree (z k) → Syntax.Expression → Syntax.Expression} {c kind : ℕ} → Chain y z ey ez c kind → ℕ → List ℕ → List Token → ℕ → ℕ → ℕ → List ℕ → List ℕ → ℕ → Answer → Type 0
-linked t s ws ts p n d A A' k (Read q m) = Link t s ws ts p n d A A' k q m
-linked {y} {z} t s ws ts p n d A A' k (Refused row q) = Fails d (phrase (y s) ∷ phrase (z (one_less s)) ∷ []) (drop p (seen ws)) row (drop q (seen ws))
+linked t s ws ts p n d A A' k (Ok (q, m)) = Link t s ws ts p n d A A' k q m
+linked {y} {z} t s ws ts p n d A A' k (Err why) = Fails d (phrase (y s) ∷ phrase (z (one_less s)) ∷ []) (drop p (seen ws)) (row_of why) (drop (token_of why) (seen ws))
 
 pub record Linked {y z : ℕ → Nonterminal} {ey : (k : ℕ) → Meaning (y k)} {ez : (k : ℕ) → List Token → Tree (z k) → Syntax.Expression → Syntax.Expression} {c kind : ℕ} (t : Chain y z ey ez c kind) (s : ℕ) (ws : List ℕ) (p n d : ℕ) (A A' : List ℕ) (k : ℕ) (a : Answer) : Type 0 where
   pub bounds : far ws p n a
@@ -150,21 +151,21 @@ module _ {y z : ℕ → Nonterminal} {ey : (k : ℕ) → Meaning (y k)} {ez : (k
   chain_starts {a} h long = record { bounds = h.bounds; long = long; at = λ ts g. by ts a (h.at ts g) }
     where
       by : (ts : List Token) (a : Answer) → parsed (y s) (ey s) ws ts p n d A A₁ a → linked t s ws ts p n d A A₁ (one_less s) a
-      by ts (Read q m) f = record { head = f.tree; make = λ b. b; sofar = ey s ts f.tree; said = λ b. refl; reads = λ b r i. f.reads ▸ i; fails = λ row r i. f.reads ▹ i; wrote = f.wrote }
-      by ts (Refused row q) f = stop! f
+      by ts (Ok (q, m)) f = record { head = f.tree; make = λ b. b; sofar = ey s ts f.tree; said = λ b. refl; reads = λ b r i. f.reads ▸ i; fails = λ row r i. f.reads ▹ i; wrote = f.wrote }
+      by ts (Err why) f = stop! f
 
   module _ {k : ℕ} {a : Answer} (h : Linked t s ws p n d A A₁ k a) where
-    pub chain_stops : {row q : ℕ} → a ≡ Refused row q → IsSeries (y s) (z (one_less s)) (all_said ey ez s) ws p n d A A₁ a
-    chain_stops i = record { bounds = h.bounds; at = λ ts g. subst (series (y s) (z (one_less s)) (all_said ey ez s) ws ts p n d A A₁) (sym i) (subst (linked t s ws ts p n d A A₁ k) i (h.at ts g)) }
+    pub chain_stops : {why : ParseError} → a ≡ Err why → IsSeries (y s) (z (one_less s)) (all_said ey ez s) ws p n d A A₁ (Err why)
+    chain_stops i = record { bounds = subst (far ws p n) i h.bounds; at = λ ts g. subst (linked t s ws ts p n d A A₁ k) i (h.at ts g) }
 
-    module _ {q m : ℕ} (i : a ≡ Read q m) where
+    module _ {q m : ℕ} (i : a ≡ Ok (q, m)) where
       pub chain_paid : Paid ws p n q m
       chain_paid = subst (far ws p n) i h.bounds
 
       pub link : (ts : List Token) → Holds ws ts → Link t s ws ts p n d A A₁ k q m
       link ts g = subst (linked t s ws ts p n d A A₁ k) i (h.at ts g)
 
-      pub chain_ends : (kind_in ws q ≡ c → ⊥) → IsSeries (y s) (z (one_less s)) (all_said ey ez s) ws p n d A A₁ (Read q m)
+      pub chain_ends : (kind_in ws q ≡ c → ⊥) → IsSeries (y s) (z (one_less s)) (all_said ey ez s) ws p n d A A₁ (Ok (q, m))
       chain_ends e = record {
         bounds = chain_paid;
         at = λ ts g. let f = link ts g in record {
@@ -179,7 +180,7 @@ module _ {y z : ℕ → Nonterminal} {ey : (k : ℕ) → Meaning (y k)} {ez : (k
       chain_on l e {A₂} {A₃} {b} {r} v j long = by b v j
         where
           by : (b : Answer) → Parsed (y k) (ey k) ws (q + 1) m d A₁ A₂ b → Joined kind m 0 A₂ A₃ b r → Linked t s ws p n d A A₃ (one_less k) r
-          by (Read q' l') v j =
+          by (Ok (q', l')) v j =
               let o = chain_paid in
               let o' = v.bounds in
               subst (Linked t s ws p n d A A₃ (one_less k)) (sym j.0) (record {
@@ -195,10 +196,10 @@ module _ {y z : ℕ → Nonterminal} {ey : (k : ℕ) → Meaning (y k)} {ez : (k
                   wrote = subst (Wrote A n (flat (t.op f.sofar (ey k ts f'.tree)) n) (l' + 1)) (sym j.1) (both_wrote t.operator f.sofar (ey k ts f'.tree) f.wrote f'.wrote);
                 };
               })
-          by (Refused row q') v j = subst (Linked t s ws p n d A A₃ (one_less k)) (sym j) (record {
+          by (Err why) v j = subst (Linked t s ws p n d A A₃ (one_less k)) (sym j) (record {
             long = long;
             bounds = v.bounds;
-            at = λ ts g. (link ts g).fails row (drop q' (seen ws)) (fail! (t.takes k) l (t.first ws q e) (stop! (v.at ts g)));
+            at = λ ts g. (link ts g).fails (row_of why) (drop (token_of why) (seen ws)) (fail! (t.takes k) l (t.first ws q e) (stop! (v.at ts g)));
           })
 
 -- one phrase that is two
@@ -206,8 +207,8 @@ series_whole : {x y z : Nonterminal} {ex : Meaning x} {e : List Token → Tree y
 series_whole {x} {y} {z} {ex} {e} make stands said {ws} {p} {n} {d} {A} {A₁} {r} h = record { bounds = h.bounds; at = λ ts g. by ts r (h.at ts g) }
   where
     by : (ts : List Token) (r : Answer) → series y z e ws ts p n d A A₁ r → parsed x ex ws ts p n d A A₁ r
-    by ts (Read q m) f = record { tree = make f.first f.rest; reads = as! (stands _) f.reads; wrote = wrote_as (ap (λ e. flat e n) (said ts f.first f.rest)) f.wrote }
-    by ts (Refused row q) f = as_fails! (stands _) f
+    by ts (Ok (q, m)) f = record { tree = make f.first f.rest; reads = as! (stands _) f.reads; wrote = wrote_as (ap (λ e. flat e n) (said ts f.first f.rest)) f.wrote }
+    by ts (Err why) f = as_fails! (stands _) f
 
 -- the two chains of operands without number
 pub or_chain : Chain (λ k. Conjunction) (λ k. MoreOr) (λ k ts t. says ts t) (λ k ts t. says ts t) OR DISJUNCTION
@@ -256,8 +257,8 @@ unfoldable pub consequent_tail : {l : List Terminal} → Tail Implication Disjun
 unfolding says
 consequent_tail = record { ez = λ ts t. says ts t; make = Grammar.implication; none = Grammar.no_consequent; stands = implication_rule; said = λ ts a b. refl; said_none = λ ts e. refl }
 
-module _ {ws : List ℕ} {p n d q m : ℕ} {A A₁ : List ℕ} {a : Answer} (i : a ≡ Read q m) where
-  pub no_sign_ends : NoQuantity (kind_in ws p) → IsImplication ws p n d A A₁ a → (41 ≤ kind_in ws q → kind_in ws q ≤ 46 → ⊥) → IsExpression ws p n d A A₁ (Read q m)
+module _ {ws : List ℕ} {p n d q m : ℕ} {A A₁ : List ℕ} {a : Answer} (i : a ≡ Ok (q, m)) where
+  pub no_sign_ends : NoQuantity (kind_in ws p) → IsImplication ws p n d A A₁ a → (41 ≤ kind_in ws q → kind_in ws q ≤ 46 → ⊥) → IsExpression ws p n d A A₁ (Ok (q, m))
   unfolding comparison_tail
   no_sign_ends f h e = tail_none (comparison_tail ws p f) h i (no_comparison! (not_sign ws q e))
 
@@ -267,7 +268,7 @@ module _ {ws : List ℕ} {p n d q m : ℕ} {A A₁ : List ℕ} {a : Answer} (i :
       let e : sign_number (sign_of (kind_in ws q)) ≡ kind_in ws q - 41 = omega (arith, sign_code (kind_in ws q) low high) in
       tail_joins (comparison_tail ws p f) h i (Grammar.comparison (sign_of (kind_in ws q))) comparison_rule (λ ts b e. refl) (comparison_operator (sign_of (kind_in ws q))) l (kind_within ws q (omega arith)) (sign_first ws q low high) v (subst (λ s. Joined COMPARISON m s A₂ A₃ b r) (sym e) j)
 
-  pub no_arrow_ends : IsDisjunction ws p n d A A₁ a → (kind_in ws q ≡ IMPLIES → ⊥) → (kind_in ws q ≡ IFF → ⊥) → IsImplication ws p n d A A₁ (Read q m)
+  pub no_arrow_ends : IsDisjunction ws p n d A A₁ a → (kind_in ws q ≡ IMPLIES → ⊥) → (kind_in ws q ≡ IFF → ⊥) → IsImplication ws p n d A A₁ (Ok (q, m))
   unfolding consequent_tail
   no_arrow_ends h e f = tail_none consequent_tail h i (no_consequent! (not_key ws q e) (not_key ws q f))
 
@@ -295,21 +296,21 @@ primary_said ts t = refl
 
 -- !
 module _ {ws : List ℕ} {p n d : ℕ} {A : List ℕ} where
-  pub negation_deep : {B : List ℕ} → p < length ws → 32 ≤ d → kind_in ws p ≡ NOT → IsNegation ws p n d A B (Refused 13 p)
+  pub negation_deep : {B : List ℕ} → p < length ws → 32 ≤ d → kind_in ws p ≡ NOT → IsNegation ws p n d A B (Err (TooMuch p))
   negation_deep i l e = refused (omega arith) (deep! negation_rule (omega arith) (key_first ws p e (omega arith)))
 
   pub negation_plain : {A₁ : List ℕ} {a : Answer} → (kind_in ws p ≡ NOT → ⊥) → IsPrimary ws p n d A A₁ a → IsNegation ws p n d A A₁ a
   negation_plain {A₁} {a} e h = record { bounds = h.bounds; at = λ ts g. by ts a (h.at ts g) }
     where
       by : (ts : List Token) (a : Answer) → parsed Primary (λ ts t. says ts t) ws ts p n d A A₁ a → parsed Negation (λ ts t. says ts t) ws ts p n d A A₁ a
-      by ts (Read q m) f = record { tree = Grammar.primary f.tree; reads = as! (primary_rule (not_key ws p e)) f.reads; wrote = wrote_as (ap (λ e. flat e n) (primary_said ts f.tree)) f.wrote }
-      by ts (Refused row q) f = as_fails! (primary_rule (not_key ws p e)) f
+      by ts (Ok (q, m)) f = record { tree = Grammar.primary f.tree; reads = as! (primary_rule (not_key ws p e)) f.reads; wrote = wrote_as (ap (λ e. flat e n) (primary_said ts f.tree)) f.wrote }
+      by ts (Err why) f = as_fails! (primary_rule (not_key ws p e)) f
 
   pub negation_wraps : {A₁ A₂ : List ℕ} {a r : Answer} → p < length ws → d < 32 → kind_in ws p ≡ NOT → IsNegation ws (p + 1) n (d + 1) A A₁ a → Wrapped NEGATION A₁ A₂ a r → IsNegation ws p n d A A₂ r
   negation_wraps {A₁} {A₂} {a} {r} i l e h j = by a (let k : d + 1 ≡ suc d = omega arith in subst (λ d. IsNegation ws (p + 1) n d A A₁ a) k h) j
     where
       by : (a : Answer) → IsNegation ws (p + 1) n (suc d) A A₁ a → Wrapped NEGATION A₁ A₂ a r → IsNegation ws p n d A A₂ r
-      by (Read q m) h j =
+      by (Ok (q, m)) h j =
           let o = h.bounds in
           subst (IsNegation ws p n d A A₂) (sym j.0) (record {
             bounds = record { more = omega arith; paid = omega arith; within = o.within };
@@ -319,31 +320,31 @@ module _ {ws : List ℕ} {p n d : ℕ} {A : List ℕ} where
               wrote = subst (Wrote A n (flat (says ts (Grammar.negation f.tree)) n) (m + 1)) (sym j.1) (negation_wrote ts f.tree f.wrote);
             };
           })
-      by (Refused row q) h j = subst (IsNegation ws p n d A A₂) (sym j) (record {
+      by (Err why) h j = subst (IsNegation ws p n d A A₂) (sym j) (record {
         bounds = h.bounds;
         at = λ ts g. fail! negation_rule (omega arith) (key_first ws p e (omega arith)) (stop! (h.at ts g));
       })
 
 -- room for the words
 pub far_room : (ws : List ℕ) (p n M k s : ℕ) (b : Answer) → far ws p n b → k < 256 → s < 65536 → 0 < n → n < p → length ws ≤ 2048 → length ws ≤ M → JoinRoom M k n s b
-far_room ws p n M k s (Read q l) o hk hs hn hp hl hm = record { kind = hk; sign = hs; left = hn; order = omega (arith, o.more); room = omega (arith, o.paid, o.within); small = omega (arith, o.paid, o.within) }
-far_room ws p n M k s (Refused row q) o hk hs hn hp hl hm = tt
+far_room ws p n M k s (Ok (q, l)) o hk hs hn hp hl hm = record { kind = hk; sign = hs; left = hn; order = omega (arith, o.more); room = omega (arith, o.paid, o.within); small = omega (arith, o.paid, o.within) }
+far_room ws p n M k s (Err why) o hk hs hn hp hl hm = tt
 
 pub join_room : {x : Nonterminal} {e : Meaning x} {ws : List ℕ} {p n d M : ℕ} {A A' : List ℕ} {b : Answer} (k s : ℕ) → Parsed x e ws p n d A A' b → k < 256 → s < 65536 → 0 < n → n < p → length ws ≤ 2048 → length ws ≤ M → JoinRoom M k n s b
 join_room {ws = ws} {p} {n} {M = M} {b = b} k s h hk hs hn hp hl hm = far_room ws p n M k s b h.bounds hk hs hn hp hl hm
 
 pub wrap_room : (ws : List ℕ) (p n M : ℕ) (b : Answer) (k : ℕ) → far ws p n b → k < 256 → n < p → length ws ≤ 2048 → length ws ≤ M → WrapRoom M k b
-wrap_room ws p n M (Read q l) k o hk hp hl hm = record { kind = hk; sign = omega arith; left = omega (arith, o.more); order = omega arith; room = omega (arith, o.paid, o.within); small = omega (arith, o.paid, o.within) }
-wrap_room ws p n M (Refused row q) k o hk hp hl hm = tt
+wrap_room ws p n M (Ok (q, l)) k o hk hp hl hm = record { kind = hk; sign = omega arith; left = omega (arith, o.more); order = omega arith; room = omega (arith, o.paid, o.within); small = omega (arith, o.paid, o.within) }
+wrap_room ws p n M (Err why) k o hk hp hl hm = tt
 
 -- what is left to read after an answer
 abbrev pub left : List ℕ → Answer → ℕ
-left ws (Read q m) = suc (length ws - q)
-left ws (Refused row q) = 0
+left ws (Ok (q, m)) = suc (length ws - q)
+left ws (Err why) = 0
 
-pub chain_less : {y : Nonterminal} {ey : Meaning y} {ws : List ℕ} {q m d : ℕ} {A₁ A₂ : List ℕ} {a b : Answer} (k : ℕ) (A₃ : List ℕ) (r : Answer) → a ≡ Read q m → q < length ws → Parsed y ey ws (q + 1) m d A₁ A₂ b → Joined k m 0 A₂ A₃ b r → left ws r < left ws a
+pub chain_less : {y : Nonterminal} {ey : Meaning y} {ws : List ℕ} {q m d : ℕ} {A₁ A₂ : List ℕ} {a b : Answer} (k : ℕ) (A₃ : List ℕ) (r : Answer) → a ≡ Ok (q, m) → q < length ws → Parsed y ey ws (q + 1) m d A₁ A₂ b → Joined k m 0 A₂ A₃ b r → left ws r < left ws a
 chain_less {y} {ey} {ws} {q} {m} {d} {A₁} {A₂} {a} {b} k A₃ r i l v j = subst (λ a. left ws r < left ws a) (sym i) (by b v j)
   where
     by : (b : Answer) → Parsed y ey ws (q + 1) m d A₁ A₂ b → Joined k m 0 A₂ A₃ b r → left ws r < suc (length ws - q)
-    by (Read q' l') v j = let o = v.bounds in subst (λ r. left ws r < suc (length ws - q)) (sym j.0) (omega arith)
-    by (Refused row q') v j = subst (λ r. left ws r < suc (length ws - q)) (sym j) (omega arith)
+    by (Ok (q', l')) v j = let o = v.bounds in subst (λ r. left ws r < suc (length ws - q)) (sym j.0) (omega arith)
+    by (Err why) v j = subst (λ r. left ws r < suc (length ws - q)) (sym j) (omega arith)

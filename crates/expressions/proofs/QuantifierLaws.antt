@@ -1,4 +1,5 @@
 -- The attributes of a quantifier as they are read, and its words as they are written.
+use Rattle.std.specs.Prelude.{Ok, Err}
 use mathlib.Core.List.{List, [], ◌∷◌, ◌++◌, map, append_assoc, append-nil}
 use mathlib.Core.Path.{◌≡◌, refl, ap, sym, subst, ◌∙◌}
 use native.Mathlib.Omega.{arith}
@@ -10,7 +11,7 @@ use Rattle.expressions.specs.Operators.{Names, no_more, one_more, attribute, no_
 use Rattle.lexer.specs.Tokens.{NAME}
 use Rattle.terms.proofs.TokenLaws.{kind_within}
 use Rattle.terms.proofs.WriteLaws.{wrote_none, wrote_next, wrote_as}
-use Rattle.terms.specs.declared.Answer.TheVariants.{Read, Refused}
+use Rattle.terms.specs.declared.ParseError.TheVariants.{NoProgram}
 use Rattle.terms.specs.Phrases.{kind_in, Wrote}
 use Rattle.words.specs.Fields.{word}
 
@@ -43,7 +44,7 @@ module _ {ws : List ℕ} {p n q m w : ℕ} {A A' : List ℕ} (f : Attributes ws 
   past : Wrote A n (map attribute (f.sofar ++ (q ∷ []))) (m + 1) (set A' m w)
   past = wrote_as (ap (λ v. map attribute f.sofar ++ (v ∷ [])) i ∙ map_next f.sofar q) (wrote_next f.wrote w)
 
-  pub attributes_end : (kind_in ws (q + 2) ≡ NAME → kind_in ws (q + 2 + 1) ≡ COMMA → ⊥) → IsBound ws p n A (set A' m w) (Read (q + 2) (m + 1))
+  pub attributes_end : (kind_in ws (q + 2) ≡ NAME → kind_in ws (q + 2 + 1) ≡ COMMA → ⊥) → IsBound ws p n A (set A' m w) (Ok (q + 2, m + 1))
   attributes_end h = record {
     is = record {
       names = f.sofar ++ (q ∷ []);
@@ -77,13 +78,13 @@ module _ {ws : List ℕ} {p n q m w : ℕ} {A A' : List ℕ} (f : Attributes ws 
       }
 
 module _ {ws : List ℕ} {p n : ℕ} {A B : List ℕ} where
-  pub bracket_missing : p ≤ length ws → (kind_in ws p ≡ LPAREN → ⊥) → IsBound ws p n A B (Refused 10 p)
+  pub bracket_missing : p ≤ length ws → (kind_in ws p ≡ LPAREN → ⊥) → IsBound ws p n A B (Err (NoProgram p))
   bracket_missing l h = record { is = (refl, (no_bracket h, l)) }
 
-  pub name_missing : kind_in ws p ≡ LPAREN → (kind_in ws (p + 1) ≡ NAME → ⊥) → IsBound ws p n A B (Refused 10 (p + 1))
+  pub name_missing : kind_in ws p ≡ LPAREN → (kind_in ws (p + 1) ≡ NAME → ⊥) → IsBound ws p n A B (Err (NoProgram (p + 1)))
   name_missing e h = let l = kind_within ws p (omega arith) in record { is = (refl, (no_name e h, omega arith)) }
 
-  pub comma_missing : kind_in ws p ≡ LPAREN → kind_in ws (p + 1) ≡ NAME → (kind_in ws (p + 2) ≡ COMMA → ⊥) → IsBound ws p n A B (Refused 10 (p + 2))
+  pub comma_missing : kind_in ws p ≡ LPAREN → kind_in ws (p + 1) ≡ NAME → (kind_in ws (p + 2) ≡ COMMA → ⊥) → IsBound ws p n A B (Err (NoProgram (p + 2)))
   comma_missing e f h = let l = kind_within ws (p + 1) (omega arith) in record { is = (refl, (no_comma e f h, omega arith)) }
 
 -- the words of the quantifiers down to attribute i are written up to k

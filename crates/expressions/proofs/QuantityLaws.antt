@@ -1,4 +1,5 @@
 -- Quantities: summands, sums of up to eight, ratios, and the signs between them.
+use Rattle.std.specs.Prelude.{Ok, Err}
 use mathlib.Core.Bool.{true, false}
 use mathlib.Core.List.{List, [], ◌∷◌}
 use mathlib.Core.Path.{◌≡◌, refl, ap, sym, subst, ◌∙◌}
@@ -19,9 +20,9 @@ use Rattle.lexer.specs.Tokens.{sign_of, NUMBER, LARGE_NUMBER}
 use Rattle.terms.proofs.AtomLaws.{refused}
 use Rattle.terms.proofs.TokenLaws.{kind_within, mark_first, number_first, large_first, literal_number, sign_first, sign_code, not_key, not_sign, begins_one, begins_none}
 use Rattle.terms.proofs.WriteLaws.{wrote_one, wrote_as}
-use Rattle.terms.specs.declared.Answer.{Answer}
-use Rattle.terms.specs.declared.Answer.TheVariants.{Read, Refused}
-use Rattle.terms.specs.Phrases.{kind_in, seen, Holds, Wrote, parsed, Paid, far, Parsed, IsQuantity, IsExpression}
+use Rattle.terms.specs.declared.ParseError.{ParseError}
+use Rattle.terms.specs.declared.ParseError.TheVariants.{NoProgram, Number}
+use Rattle.terms.specs.Phrases.{Answer, row_of, token_of, kind_in, seen, Holds, Wrote, parsed, Paid, far, Parsed, IsQuantity, IsExpression}
 use Rattle.terms.specs.Terms.{FirstOfQuantity, a_count, a_literal, a_large_literal, NoQuantity}
 use Rattle.words.specs.Fields.{word, LITERAL, SUM, RATIO, FIGURES}
 use Rattle.words.specs.Raw.{flat, sign_number}
@@ -44,7 +45,7 @@ unfolding says flat
 literal_words p n g e = ap (λ i. word LITERAL i 0 0 ∷ []) (sym (literal_number g p e))
 
 module _ (ws : List ℕ) (p n : ℕ) (A : List ℕ) where
-  pub literal_reads : {w : ℕ} → kind_in ws p ≡ NUMBER → w ≡ word LITERAL p 0 0 → (d : ℕ) → d ≤ 32 → IsSummand ws p n d A (set A n w) (Read (p + 1) (n + 1))
+  pub literal_reads : {w : ℕ} → kind_in ws p ≡ NUMBER → w ≡ word LITERAL p 0 0 → (d : ℕ) → d ≤ 32 → IsSummand ws p n d A (set A n w) (Ok (p + 1, n + 1))
   literal_reads {w} e x d l =
       let i = kind_within ws p (omega arith) in
       record {
@@ -52,10 +53,10 @@ module _ (ws : List ℕ) (p n : ℕ) (A : List ℕ) where
         at = λ ts g. record { tree = Grammar.literal false p; reads = read! literal_rule l (number_first ws p e) done!; wrote = wrote_as (ap (λ v. v ∷ []) x ∙ literal_words p n g e) (wrote_one A n w) };
       }
 
-  pub literal_large : {B : List ℕ} → kind_in ws p ≡ LARGE_NUMBER → (d : ℕ) → d ≤ 32 → IsSummand ws p n d A B (Refused 19 p)
+  pub literal_large : {B : List ℕ} → kind_in ws p ≡ LARGE_NUMBER → (d : ℕ) → d ≤ 32 → IsSummand ws p n d A B (Err (Number p))
   literal_large e d l = let i = kind_within ws p (omega arith) in refused (omega arith) (over! large_literal_over (large_first ws p e))
 
-  pub no_literal_here : {B : List ℕ} → p ≤ length ws → NoQuantity (kind_in ws p) → (d : ℕ) → d ≤ 32 → IsSummand ws p n d A B (Refused 10 p)
+  pub no_literal_here : {B : List ℕ} → p ≤ length ws → NoQuantity (kind_in ws p) → (d : ℕ) → d ≤ 32 → IsSummand ws p n d A B (Err (NoProgram p))
   no_literal_here h u d l = refused h (no_summand! (begins_none ws p u))
 
 -- summands with + between them
@@ -78,7 +79,7 @@ one_of : {ws : List ℕ} {p n d : ℕ} {A A₁ : List ℕ} {r : Answer} (k : ℕ
 one_of zero h f = absurd (h refl)
 one_of (suc k) h f = f
 
-pub sum_on : {ws : List ℕ} {p n d k q m : ℕ} {A A₁ A₂ A₃ : List ℕ} {a b r : Answer} → Linked sum_chain 8 ws p n d A A₁ k a → a ≡ Read q m → (k ≡ 0 → ⊥) → d ≤ 32 → kind_in ws q ≡ PLUS → IsSummand ws (q + 1) m d A₁ A₂ b → Joined SUM m 0 A₂ A₃ b r → length A₃ ≡ length A → Linked sum_chain 8 ws p n d A A₃ (k - 1) r
+pub sum_on : {ws : List ℕ} {p n d k q m : ℕ} {A A₁ A₂ A₃ : List ℕ} {a b r : Answer} → Linked sum_chain 8 ws p n d A A₁ k a → a ≡ Ok (q, m) → (k ≡ 0 → ⊥) → d ≤ 32 → kind_in ws q ≡ PLUS → IsSummand ws (q + 1) m d A₁ A₂ b → Joined SUM m 0 A₂ A₃ b r → length A₃ ≡ length A → Linked sum_chain 8 ws p n d A A₃ (k - 1) r
 sum_on {ws} {p} {n} {d} {k} {A = A} {A₃ = A₃} {r = r} h i z l e v j long = subst (λ k. Linked sum_chain 8 ws p n d A A₃ k r) (less k) (chain_on sum_chain 8 h i l e (one_of k z v) j long)
   where
     less : (k : ℕ) → one_less k ≡ k - 1
@@ -86,27 +87,27 @@ sum_on {ws} {p} {n} {d} {k} {A = A} {A₃ = A₃} {r = r} h i z l e v j long = s
     less (suc k) = omega arith
 
 -- one too many
-ninth_fails : {ws : List ℕ} {p : ℕ} {d : ℕ} {row q : ℕ} → IsNinth ws p (Refused row q) → Fails d (phrase (Summand true) ∷ []) (drop p (seen ws)) row (drop q (seen ws))
+ninth_fails : {ws : List ℕ} {p : ℕ} {d : ℕ} {why : ParseError} → IsNinth ws p (Err why) → Fails d (phrase (Summand true) ∷ []) (drop p (seen ws)) (row_of why) (drop (token_of why) (seen ws))
 ninth_fails {ws} {p} (a_ninth (a_count e)) = over! ninth_counted_over (mark_first ws p e (omega arith) (omega arith))
 ninth_fails {ws} {p} (a_ninth (a_literal e)) = over! ninth_literal_over (number_first ws p e)
 ninth_fails {ws} {p} (a_ninth (a_large_literal e)) = over! ninth_literal_over (large_first ws p e)
 ninth_fails {ws} {p} (no_ninth h) = no_summand! (begins_none ws p h)
 
-pub chain_ninth : {ws : List ℕ} {p n d k q m : ℕ} {A A₁ : List ℕ} {a r : Answer} → Linked sum_chain 8 ws p n d A A₁ k a → a ≡ Read q m → k ≡ 0 → d ≤ 32 → kind_in ws q ≡ PLUS → IsNinth ws (q + 1) r → IsSum ws p n d A A₁ r
+pub chain_ninth : {ws : List ℕ} {p n d k q m : ℕ} {A A₁ : List ℕ} {a r : Answer} → Linked sum_chain 8 ws p n d A A₁ k a → a ≡ Ok (q, m) → k ≡ 0 → d ≤ 32 → kind_in ws q ≡ PLUS → IsNinth ws (q + 1) r → IsSum ws p n d A A₁ r
 chain_ninth {ws} {p} {n} {d} {k} {q} {m} {A} {A₁} {a} {r} h i z l e v = by r v
   where
     none : Linked sum_chain 8 ws p n d A A₁ 0 a
     none = subst (λ k. Linked sum_chain 8 ws p n d A A₁ k a) z h
 
-    stops : (row q' : ℕ) → q' ≤ length ws → IsNinth ws (q + 1) (Refused row q') → IsSum ws p n d A A₁ (Refused row q')
-    stops row q' b v = record { bounds = b; at = λ ts g. (link sum_chain 8 none i ts g).fails row (drop q' (seen ws)) (fail! more_summands_rule l (mark_first ws q e (omega arith) (omega arith)) (stop! (ninth_fails v))) }
+    stops : (why : ParseError) → token_of why ≤ length ws → IsNinth ws (q + 1) (Err why) → IsSum ws p n d A A₁ (Err why)
+    stops why b v = record { bounds = b; at = λ ts g. (link sum_chain 8 none i ts g).fails (row_of why) (drop (token_of why) (seen ws)) (fail! more_summands_rule l (mark_first ws q e (omega arith) (omega arith)) (stop! (ninth_fails v))) }
 
     by : (r : Answer) → IsNinth ws (q + 1) r → IsSum ws p n d A A₁ r
-    by r (a_ninth f) = let b = kind_within ws q (omega arith) in stops 19 (q + 1) (omega arith) (a_ninth f)
-    by r (no_ninth f) = let b = kind_within ws q (omega arith) in stops 10 (q + 1) (omega arith) (no_ninth f)
+    by r (a_ninth f) = let b = kind_within ws q (omega arith) in stops (Number (q + 1)) (omega arith) (a_ninth f)
+    by r (no_ninth f) = let b = kind_within ws q (omega arith) in stops (NoProgram (q + 1)) (omega arith) (no_ninth f)
 
 -- what a sum says, where it is known
-pub sum_paid : {ws : List ℕ} {p n d q m : ℕ} {A A' : List ℕ} {a : Answer} → IsSum ws p n d A A' a → a ≡ Read q m → Paid ws p n q m
+pub sum_paid : {ws : List ℕ} {p n d q m : ℕ} {A A' : List ℕ} {a : Answer} → IsSum ws p n d A A' a → a ≡ Ok (q, m) → Paid ws p n q m
 sum_paid {ws} {p} {n} h i = subst (far ws p n) i h.bounds
 
 pub sum_room : {ws : List ℕ} {p n d M : ℕ} {A A' : List ℕ} {b : Answer} (k : ℕ) → IsSum ws p n d A A' b → k < 256 → 0 < n → n < p → length ws ≤ 2048 → length ws ≤ M → JoinRoom M k n 0 b
@@ -135,17 +136,17 @@ unfolding says
 ratio_said ts a b u v = refl
 
 module _ {ws : List ℕ} {p n d : ℕ} {A A₁ : List ℕ} {a : Answer} (h : IsSum ws p n d A A₁ a) where
-  summed : {q m : ℕ} → a ≡ Read q m → (ts : List Token) → Holds ws ts → Series (Summand false) (MoreSummands 7) (λ ts a b. says ts b (says ts a)) ws ts p n d A A₁ q m
+  summed : {q m : ℕ} → a ≡ Ok (q, m) → (ts : List Token) → Holds ws ts → Series (Summand false) (MoreSummands 7) (λ ts a b. says ts b (says ts a)) ws ts p n d A A₁ q m
   summed i ts g = subst (series (Summand false) (MoreSummands 7) (λ ts a b. says ts b (says ts a)) ws ts p n d A A₁) i (h.at ts g)
 
-  pub quantity_stops : {row q : ℕ} → a ≡ Refused row q → IsQuantity ws p n d A A₁ a
+  pub quantity_stops : {why : ParseError} → a ≡ Err why → IsQuantity ws p n d A A₁ (Err why)
   quantity_stops i = record {
-    bounds = h.bounds;
-    at = λ ts g. subst (parsed Quantity (λ ts t. says ts t) ws ts p n d A A₁) (sym i) (as_fails! quantity_rule (both_fail (subst (series (Summand false) (MoreSummands 7) (λ ts a b. says ts b (says ts a)) ws ts p n d A A₁) i (h.at ts g))));
+    bounds = subst (far ws p n) i h.bounds;
+    at = λ ts g. (as_fails! quantity_rule (both_fail (subst (series (Summand false) (MoreSummands 7) (λ ts a b. says ts b (says ts a)) ws ts p n d A A₁) i (h.at ts g))));
   }
 
-  module _ {q m : ℕ} (i : a ≡ Read q m) where
-    pub quantity_ends : (kind_in ws q ≡ SLASH → ⊥) → IsQuantity ws p n d A A₁ (Read q m)
+  module _ {q m : ℕ} (i : a ≡ Ok (q, m)) where
+    pub quantity_ends : (kind_in ws q ≡ SLASH → ⊥) → IsQuantity ws p n d A A₁ (Ok (q, m))
     quantity_ends e = record {
       bounds = sum_paid h i;
       at = λ ts g. let f = summed i ts g in record {
@@ -159,7 +160,7 @@ module _ {ws : List ℕ} {p n d : ℕ} {A A₁ : List ℕ} {a : Answer} (h : IsS
     quantity_joins l e {A₂} {A₃} {b} {r} v j = by b v j
       where
         by : (b : Answer) → IsSum ws (q + 1) m d A₁ A₂ b → Joined RATIO m 0 A₂ A₃ b r → IsQuantity ws p n d A A₃ r
-        by (Read q' l') v j =
+        by (Ok (q', l')) v j =
             let o = sum_paid h i in
             let o' = v.bounds in
             subst (IsQuantity ws p n d A A₃) (sym j.0) (record {
@@ -170,7 +171,7 @@ module _ {ws : List ℕ} {p n d : ℕ} {A A₁ : List ℕ} {a : Answer} (h : IsS
                 wrote = subst (Wrote A n (flat (says ts (Grammar.quantity f.first f.rest (Grammar.divisor f'.first f'.rest))) n) (l' + 1)) (sym j.1) (wrote_as (ap (λ e. flat e n) (ratio_said ts f.first f.rest f'.first f'.rest)) (both_wrote ratio_operator (says ts f.rest (says ts f.first)) (says ts f'.rest (says ts f'.first)) f.wrote f'.wrote));
               };
             })
-        by (Refused row q') v j = subst (IsQuantity ws p n d A A₃) (sym j) (record {
+        by (Err why) v j = subst (IsQuantity ws p n d A A₃) (sym j) (record {
           bounds = v.bounds;
           at = λ ts g. as_fails! quantity_rule (then_fails (summed i ts g).reads (fail! divisor_rule l (mark_first ws q e (omega arith) (omega arith)) (v.at ts g)));
         })
@@ -186,14 +187,14 @@ figures_wrote ts a b {k} {n} {m} {l} {A} {A₁} {A₂} {A₃} low high f f' j =
     subst (Wrote A n (flat (says ts (Grammar.figures a (sign_of k) b)) n) (l + 1)) (ap (λ s. set A₂ l (word FIGURES (m - 1) (l - 1) s)) e ∙ sym j) (wrote_as (ap (λ e. flat e n) (figures_said ts a (sign_of k) b)) (both_wrote (figures_operator (sign_of k)) (says ts a) (says ts b) f f'))
 
 module _ {ws : List ℕ} {p n d : ℕ} {A A₁ : List ℕ} {a : Answer} (u : FirstOfQuantity (kind_in ws p)) (h : IsQuantity ws p n d A A₁ a) where
-  pub figures_stop : {row q : ℕ} → a ≡ Refused row q → IsExpression ws p n d A A₁ a
+  pub figures_stop : {why : ParseError} → a ≡ Err why → IsExpression ws p n d A A₁ (Err why)
   figures_stop i = record {
-    bounds = h.bounds;
-    at = λ ts g. subst (parsed Expression (λ ts t. says ts t) ws ts p n d A A₁) (sym i) (as_fails! (figures_rule (begins_one ws p u)) (stop! (subst (parsed Quantity (λ ts t. says ts t) ws ts p n d A A₁) i (h.at ts g))));
+    bounds = subst (far ws p n) i h.bounds;
+    at = λ ts g. (as_fails! (figures_rule (begins_one ws p u)) (stop! (subst (parsed Quantity (λ ts t. says ts t) ws ts p n d A A₁) i (h.at ts g))));
   }
 
-  module _ {q m : ℕ} (i : a ≡ Read q m) where
-    pub figures_alone : {B : List ℕ} → (41 ≤ kind_in ws q → kind_in ws q ≤ 46 → ⊥) → IsExpression ws p n d A B (Refused 10 q)
+  module _ {q m : ℕ} (i : a ≡ Ok (q, m)) where
+    pub figures_alone : {B : List ℕ} → (41 ≤ kind_in ws q → kind_in ws q ≤ 46 → ⊥) → IsExpression ws p n d A B (Err (NoProgram q))
     figures_alone e = record {
       bounds = (paid_of h i).within;
       at = λ ts g. as_fails! (figures_rule (begins_one ws p u)) ((got_of h i ts g).reads ▹ stop! (no_sign! (not_sign ws q e)));
@@ -203,7 +204,7 @@ module _ {ws : List ℕ} {p n d : ℕ} {A A₁ : List ℕ} {a : Answer} (u : Fir
     figures_join l low high {A₂} {A₃} {b} {r} v j = by b v j
       where
         by : (b : Answer) → IsQuantity ws (q + 1) m d A₁ A₂ b → Joined FIGURES m (kind_in ws q - 41) A₂ A₃ b r → IsExpression ws p n d A A₃ r
-        by (Read q' l') v j =
+        by (Ok (q', l')) v j =
             let o = paid_of h i in
             let o' = v.bounds in
             subst (IsExpression ws p n d A A₃) (sym j.0) (record {
@@ -214,7 +215,7 @@ module _ {ws : List ℕ} {p n d : ℕ} {A A₁ : List ℕ} {a : Answer} (u : Fir
                 wrote = figures_wrote ts f.tree f'.tree low high f.wrote f'.wrote j.1;
               };
             })
-        by (Refused row q') v j = subst (IsExpression ws p n d A A₃) (sym j) (record {
+        by (Err why) v j = subst (IsExpression ws p n d A A₃) (sym j) (record {
           bounds = v.bounds;
           at = λ ts g. as_fails! (figures_rule (begins_one ws p u)) ((got_of h i ts g).reads ▹ sign! l (sign_first ws q low high) ▹ stop! (v.at ts g));
         })

@@ -1,5 +1,5 @@
 -- The words over operands, the closing bracket, the attributes of a quantifier, and the parts of a quantity.
-use Rattle.std.specs.Prelude.{false, List, [], ◌∷◌, map, ◌≡◌, ℕ, zero, suc, ◌+◌, ◌*◌, ◌-◌, ◌≤◌, ◌<◌, length, drop, set}
+use Rattle.std.specs.Prelude.{Ok, Err, false, List, [], ◌∷◌, map, ◌≡◌, ℕ, zero, suc, ◌+◌, ◌*◌, ◌-◌, ◌≤◌, ◌<◌, length, drop, set}
 use Rattle.std.proofs.lemmas.List.Edits.{sets}
 use Rattle.definition.proofs.GrammarReads.{Reads, Fails}
 use Rattle.definition.specs.Grammar.{Nonterminal, Tree, Summand, MoreSummands}
@@ -8,9 +8,8 @@ use Rattle.definition.specs.Syntax as Syntax
 use Rattle.definition.specs.Syntax.{says}
 use Rattle.definition.specs.Token.{Token, LPAREN, COMMA, EX, FA, TC, TCFAST, HASH}
 use Rattle.lexer.specs.Tokens.{NAME}
-use Rattle.terms.specs.declared.Answer.{Answer}
-use Rattle.terms.specs.declared.Answer.TheVariants.{Read, Refused}
-use Rattle.terms.specs.Phrases.{kind_in, seen, Holds, Wrote, far, Parsed, IsPrimary}
+use Rattle.terms.specs.declared.ParseError.TheVariants.{NoProgram, Number}
+use Rattle.terms.specs.Phrases.{Answer, row_of, token_of, kind_in, seen, Holds, Wrote, far, Parsed, IsPrimary}
 use Rattle.terms.specs.Terms.{FirstOfQuantity, NoQuantity}
 use Rattle.words.specs.Fields.{word, ATTRIBUTE, EXISTS, FOR_ALL, CLOSURE, COUNT}
 use Rattle.words.specs.Raw.{flat}
@@ -25,20 +24,20 @@ pub record Space (M k m s l : ℕ) : Type 0 where
   pub small : l ≤ 65535
 
 abbrev pub JoinRoom : ℕ → ℕ → ℕ → ℕ → Answer → Type 0
-JoinRoom M k m s (Read q l) = Space M k m s l
-JoinRoom M k m s (Refused row q) = Unit {0}
+JoinRoom M k m s (Ok (q, l)) = Space M k m s l
+JoinRoom M k m s (Err why) = Unit {0}
 
 abbrev pub Joined : ℕ → ℕ → ℕ → List ℕ → List ℕ → Answer → Answer → Type 0
-Joined k m s A A' (Read q l) r = (r ≡ Read q (l + 1)) × (A' ≡ set A l (word k (m - 1) (l - 1) s))
-Joined k m s A A' (Refused row q) r = r ≡ Refused row q
+Joined k m s A A' (Ok (q, l)) r = (r ≡ Ok (q, l + 1)) × (A' ≡ set A l (word k (m - 1) (l - 1) s))
+Joined k m s A A' (Err why) r = r ≡ Err why
 
 abbrev pub WrapRoom : ℕ → ℕ → Answer → Type 0
-WrapRoom M k (Read q m) = Space M k m 0 m
-WrapRoom M k (Refused row q) = Unit {0}
+WrapRoom M k (Ok (q, m)) = Space M k m 0 m
+WrapRoom M k (Err why) = Unit {0}
 
 abbrev pub Wrapped : ℕ → List ℕ → List ℕ → Answer → Answer → Type 0
-Wrapped k A A' (Read q m) r = (r ≡ Read q (m + 1)) × (A' ≡ set A m (word k (m - 1) 0 0))
-Wrapped k A A' (Refused row q) r = r ≡ Refused row q
+Wrapped k A A' (Ok (q, m)) r = (r ≡ Ok (q, m + 1)) × (A' ≡ set A m (word k (m - 1) 0 0))
+Wrapped k A A' (Err why) r = r ≡ Err why
 
 -- from p up to q: names with a comma after each, by their tokens; at q there is no further one
 pub data Names (ws : List ℕ) : ℕ → ℕ → List ℕ → Type 0 where
@@ -67,8 +66,8 @@ pub data Unbound (ws : List ℕ) (p : ℕ) : ℕ → Type 0 where
   no_comma : kind_in ws p ≡ LPAREN → kind_in ws (p + 1) ≡ NAME → (kind_in ws (p + 2) ≡ COMMA → ⊥) → Unbound ws p (p + 2)
 
 abbrev pub bound : List ℕ → ℕ → ℕ → List ℕ → List ℕ → Answer → Type 0
-bound ws p n A A' (Read q m) = Bound ws p n A A' q m
-bound ws p n A A' (Refused row q) = (row ≡ 10) × (Unbound ws p q × (q ≤ length ws))
+bound ws p n A A' (Ok (q, m)) = Bound ws p n A A' q m
+bound ws p n A A' (Err why) = (row_of why ≡ 10) × (Unbound ws p (token_of why) × (token_of why ≤ length ws))
 
 pub record IsBound (ws : List ℕ) (p n : ℕ) (A A' : List ℕ) (r : Answer) : Type 0 where
   pub is : bound ws p n A A' r
@@ -86,12 +85,12 @@ pub record BindSpace (M kind n m l : ℕ) : Type 0 where
   pub small : l + (m - n) ≤ 65536
 
 abbrev pub BindRoom : ℕ → ℕ → ℕ → ℕ → Answer → Type 0
-BindRoom M kind n m (Read q l) = BindSpace M kind n m l
-BindRoom M kind n m (Refused row q) = Unit {0}
+BindRoom M kind n m (Ok (q, l)) = BindSpace M kind n m l
+BindRoom M kind n m (Err why) = Unit {0}
 
 abbrev pub Binds : ℕ → ℕ → ℕ → List ℕ → List ℕ → Answer → Answer → Type 0
-Binds kind n m A A' (Read q l) r = (r ≡ Read q (l + (m - n))) × (A' ≡ sets A l (binders kind (m - n) n l))
-Binds kind n m A A' (Refused row q) r = r ≡ Refused row q
+Binds kind n m A A' (Ok (q, l)) r = (r ≡ Ok (q, l + (m - n))) × (A' ≡ sets A l (binders kind (m - n) n l))
+Binds kind n m A A' (Err why) r = r ≡ Err why
 
 -- EX and FA, and the kinds of their words
 pub data Quantifier : ℕ → ℕ → Type 0 where
@@ -121,8 +120,8 @@ pub record Series (y z : Nonterminal) (e : List Token → Tree y → Tree z → 
   pub wrote : Wrote A n (flat (e ts first rest) n) m A'
 
 abbrev pub series : (y z : Nonterminal) → (List Token → Tree y → Tree z → Syntax.Expression) → List ℕ → List Token → ℕ → ℕ → ℕ → List ℕ → List ℕ → Answer → Type 0
-series y z e ws ts p n d A A' (Read q m) = Series y z e ws ts p n d A A' q m
-series y z e ws ts p n d A A' (Refused row q) = Fails d (phrase y ∷ phrase z ∷ []) (drop p (seen ws)) row (drop q (seen ws))
+series y z e ws ts p n d A A' (Ok (q, m)) = Series y z e ws ts p n d A A' q m
+series y z e ws ts p n d A A' (Err why) = Fails d (phrase y ∷ phrase z ∷ []) (drop p (seen ws)) (row_of why) (drop (token_of why) (seen ws))
 
 pub record IsSeries (y z : Nonterminal) (e : List Token → Tree y → Tree z → Syntax.Expression) (ws : List ℕ) (p n d : ℕ) (A A' : List ℕ) (r : Answer) : Type 0 where
   pub bounds : far ws p n r
@@ -134,5 +133,5 @@ IsSum = IsSeries (Summand false) (MoreSummands 7) (λ ts a b. says ts b (says ts
 
 -- after + where no further summand may come
 pub data IsNinth (ws : List ℕ) (p : ℕ) : Answer → Type 0 where
-  a_ninth : FirstOfQuantity (kind_in ws p) → IsNinth ws p (Refused 19 p)
-  no_ninth : NoQuantity (kind_in ws p) → IsNinth ws p (Refused 10 p)
+  a_ninth : FirstOfQuantity (kind_in ws p) → IsNinth ws p (Err (Number p))
+  no_ninth : NoQuantity (kind_in ws p) → IsNinth ws p (Err (NoProgram p))

@@ -7,7 +7,7 @@ ghost use Rattle.expressions.specs.Operators.{JoinRoom, Joined, WrapRoom, Wrappe
 ghost use Rattle.terms.specs.Phrases.{kind_in, Room, IsExpression, IsImplication, IsDisjunction, IsConjunction, IsNegation, IsPrimary, IsQuantity};
 ghost use Rattle.terms.specs.Terms.{FirstOfQuantity, NoQuantity};
 
-use terms::{Answer, atom, begins_quantity, close, kind_at};
+use terms::{Answer, ParseError, atom, begins_quantity, close, kind_at};
 use words::pack;
 
 // After the right operand of a sign: the word over the operand that ends before the word m and the one just read.
@@ -15,13 +15,9 @@ pub fn join(words: &mut [u64], kind: u64, m: usize, sign: u64, b: Answer) -> Ans
     requires { JoinRoom (length words.old) kind m sign b }
     ensures { Joined kind m sign words.old words.new b result }
 {
-    match b {
-        Answer::Read(q, l) => {
-            words[l] = pack(kind, (m - 1) as u64, (l - 1) as u64, sign);
-            Answer::Read(q, l + 1)
-        }
-        Answer::Refused(row, q) => Answer::Refused(row, q),
-    }
+    let (q, l) = b?;
+    words[l] = pack(kind, (m - 1) as u64, (l - 1) as u64, sign);
+    Ok((q, l + 1))
 }
 
 // After an operand: the word over it.
@@ -29,13 +25,9 @@ fn wrap(words: &mut [u64], kind: u64, a: Answer) -> Answer
     requires { WrapRoom (length words.old) kind a }
     ensures { Wrapped kind words.old words.new a result }
 {
-    match a {
-        Answer::Read(q, m) => {
-            words[m] = pack(kind, (m - 1) as u64, 0, 0);
-            Answer::Read(q, m + 1)
-        }
-        Answer::Refused(row, q) => Answer::Refused(row, q),
-    }
+    let (q, m) = a?;
+    words[m] = pack(kind, (m - 1) as u64, 0, 0);
+    Ok((q, m + 1))
 }
 
 // After EX or FA: the bracket and the attributes, each with its comma. One more attribute stands where a name stands before a comma.
@@ -44,13 +36,13 @@ fn attributes(tokens: &[u64], words: &mut [u64], p: usize, n: usize) -> Answer
     ensures { IsBound tokens.now p n words.old words.new result }
 {
     if kind_at(tokens, p) != 0 {
-        return Answer::Refused(10, p);
+        return Err(ParseError::NoProgram(p));
     }
     if kind_at(tokens, p + 1) != 47 {
-        return Answer::Refused(10, p + 1);
+        return Err(ParseError::NoProgram(p + 1));
     }
     if kind_at(tokens, p + 2) != 6 {
-        return Answer::Refused(10, p + 2);
+        return Err(ParseError::NoProgram(p + 2));
     }
     let mut q = p + 1;
     let mut m = n;
@@ -59,10 +51,10 @@ fn attributes(tokens: &[u64], words: &mut [u64], p: usize, n: usize) -> Answer
         m += 1;
         q += 2;
         if kind_at(tokens, q) != 47 {
-            return Answer::Read(q, m);
+            return Ok((q, m));
         }
         if kind_at(tokens, q + 1) != 6 {
-            return Answer::Read(q, m);
+            return Ok((q, m));
         }
     }
 }
@@ -72,19 +64,13 @@ fn bind(words: &mut [u64], kind: u64, n: usize, m: usize, a: Answer) -> Answer
     requires { BindRoom (length words.old) kind n m a }
     ensures { Binds kind n m words.old words.new a result }
 {
-    match a {
-        Answer::Read(q, l) => {
-            let mut i = m;
-            let mut k = l;
-            while i > n {
-                i -= 1;
-                words[k] = pack(kind, i as u64, (k - 1) as u64, 0);
-                k += 1;
-            }
-            Answer::Read(q, k)
-        }
-        Answer::Refused(row, q) => Answer::Refused(row, q),
+    let (q, l) = a?;
+    let mut k = l;
+    for i in (n..m).rev() {
+        words[k] = pack(kind, i as u64, (k - 1) as u64, 0);
+        k += 1;
     }
+    Ok((q, k))
 }
 
 // A whole literal at p, the word of its token's number. "#" does not stand there.
@@ -95,10 +81,10 @@ fn literal(tokens: &[u64], words: &mut [u64], p: usize, n: usize) -> Answer
     match kind_at(tokens, p) {
         53 => {
             words[n] = pack(25, p as u64, 0, 0);
-            Answer::Read(p + 1, n + 1)
+            Ok((p + 1, n + 1))
         }
-        54 => Answer::Refused(19, p),
-        _ => Answer::Refused(10, p),
+        54 => Err(ParseError::Number(p)),
+        _ => Err(ParseError::NoProgram(p)),
     }
 }
 
@@ -107,9 +93,9 @@ fn ninth(tokens: &[u64], p: usize) -> Answer
     ensures { IsNinth tokens.now p result }
 {
     if begins_quantity(tokens, p) {
-        Answer::Refused(19, p)
+        Err(ParseError::Number(p))
     } else {
-        Answer::Refused(10, p)
+        Err(ParseError::NoProgram(p))
     }
 }
 
@@ -132,16 +118,13 @@ fn figures(tokens: &[u64], words: &mut [u64], p: usize, n: usize, d: usize) -> A
     requires { FirstOfQuantity (kind_in tokens.now p) × Room tokens.now (length words.old) p n d }
     ensures { IsExpression tokens.now p n d words.old words.new result }
 {
-    let a = quantity(tokens, words, p, n, d);
-    let Answer::Read(q, m) = a else {
-        return a;
-    };
+    let (q, m) = quantity(tokens, words, p, n, d)?;
     let g = kind_at(tokens, q);
     if g < 41 {
-        return Answer::Refused(10, q);
+        return Err(ParseError::NoProgram(q));
     }
     if g > 46 {
-        return Answer::Refused(10, q);
+        return Err(ParseError::NoProgram(q));
     }
     let b = quantity(tokens, words, q + 1, m, d);
     join(words, 28, m, g - 41, b)
@@ -153,12 +136,9 @@ pub fn quantity(tokens: &[u64], words: &mut [u64], p: usize, n: usize, d: usize)
     requires { Room tokens.now (length words.old) p n d }
     ensures { IsQuantity tokens.now p n d words.old words.new result }
 {
-    let a = sum(tokens, words, p, n, d);
-    let Answer::Read(q, m) = a else {
-        return a;
-    };
+    let (q, m) = sum(tokens, words, p, n, d)?;
     if kind_at(tokens, q) != 52 {
-        return a;
+        return Ok((q, m));
     }
     let b = sum(tokens, words, q + 1, m, d);
     join(words, 27, m, 0, b)
@@ -170,22 +150,17 @@ fn sum(tokens: &[u64], words: &mut [u64], p: usize, n: usize, d: usize) -> Answe
     requires { Room tokens.now (length words.old) p n d }
     ensures { IsSum tokens.now p n d words.old words.new result }
 {
-    let mut a = summand(tokens, words, p, n, d);
+    let (mut q, mut m) = summand(tokens, words, p, n, d)?;
     let mut k = 7usize;
-    loop {
-        let Answer::Read(q, m) = a else {
-            return a;
-        };
-        if kind_at(tokens, q) != 51 {
-            return a;
-        }
+    while kind_at(tokens, q) == 51 {
         if k == 0 {
             return ninth(tokens, q + 1);
         }
         let b = summand(tokens, words, q + 1, m, d);
-        a = join(words, 26, m, 0, b);
+        (q, m) = join(words, 26, m, 0, b)?;
         k -= 1;
     }
+    Ok((q, m))
 }
 
 // #(e) or a literal.
@@ -207,16 +182,13 @@ fn relations(tokens: &[u64], words: &mut [u64], p: usize, n: usize, d: usize) ->
     requires { NoQuantity (kind_in tokens.now p) × Room tokens.now (length words.old) p n d }
     ensures { IsExpression tokens.now p n d words.old words.new result }
 {
-    let a = implication(tokens, words, p, n, d);
-    let Answer::Read(q, m) = a else {
-        return a;
-    };
+    let (q, m) = implication(tokens, words, p, n, d)?;
     let g = kind_at(tokens, q);
     if g < 41 {
-        return a;
+        return Ok((q, m));
     }
     if g > 46 {
-        return a;
+        return Ok((q, m));
     }
     let b = implication(tokens, words, q + 1, m, d);
     join(words, 22, m, g - 41, b)
@@ -228,10 +200,7 @@ fn implication(tokens: &[u64], words: &mut [u64], p: usize, n: usize, d: usize) 
     requires { Room tokens.now (length words.old) p n d }
     ensures { IsImplication tokens.now p n d words.old words.new result }
 {
-    let a = disjunction(tokens, words, p, n, d);
-    let Answer::Read(q, m) = a else {
-        return a;
-    };
+    let (q, m) = disjunction(tokens, words, p, n, d)?;
     match kind_at(tokens, q) {
         12 => {
             let b = disjunction(tokens, words, q + 1, m, d);
@@ -241,7 +210,7 @@ fn implication(tokens: &[u64], words: &mut [u64], p: usize, n: usize, d: usize) 
             let b = disjunction(tokens, words, q + 1, m, d);
             join(words, 18, m, 0, b)
         }
-        _ => a,
+        _ => Ok((q, m)),
     }
 }
 
@@ -251,17 +220,12 @@ fn disjunction(tokens: &[u64], words: &mut [u64], p: usize, n: usize, d: usize) 
     requires { Room tokens.now (length words.old) p n d }
     ensures { IsDisjunction tokens.now p n d words.old words.new result }
 {
-    let mut a = conjunction(tokens, words, p, n, d);
-    loop {
-        let Answer::Read(q, m) = a else {
-            return a;
-        };
-        if kind_at(tokens, q) != 10 {
-            return a;
-        }
+    let (mut q, mut m) = conjunction(tokens, words, p, n, d)?;
+    while kind_at(tokens, q) == 10 {
         let b = conjunction(tokens, words, q + 1, m, d);
-        a = join(words, 16, m, 0, b);
+        (q, m) = join(words, 16, m, 0, b)?;
     }
+    Ok((q, m))
 }
 
 // Negations with & between them.
@@ -270,17 +234,12 @@ fn conjunction(tokens: &[u64], words: &mut [u64], p: usize, n: usize, d: usize) 
     requires { Room tokens.now (length words.old) p n d }
     ensures { IsConjunction tokens.now p n d words.old words.new result }
 {
-    let mut a = negation(tokens, words, p, n, d);
-    loop {
-        let Answer::Read(q, m) = a else {
-            return a;
-        };
-        if kind_at(tokens, q) != 9 {
-            return a;
-        }
+    let (mut q, mut m) = negation(tokens, words, p, n, d)?;
+    while kind_at(tokens, q) == 9 {
         let b = negation(tokens, words, q + 1, m, d);
-        a = join(words, 15, m, 0, b);
+        (q, m) = join(words, 15, m, 0, b)?;
     }
+    Ok((q, m))
 }
 
 // ! and what it denies, or a primary.
@@ -293,7 +252,7 @@ fn negation(tokens: &[u64], words: &mut [u64], p: usize, n: usize, d: usize) -> 
         return primary(tokens, words, p, n, d);
     }
     if d >= 32 {
-        return Answer::Refused(13, p);
+        return Err(ParseError::TooMuch(p));
     }
     let a = negation(tokens, words, p + 1, n, d + 1);
     wrap(words, 14, a)
@@ -320,7 +279,7 @@ fn group(tokens: &[u64], words: &mut [u64], p: usize, n: usize, d: usize) -> Ans
     ensures { IsPrimary tokens.now p n d words.old words.new result }
 {
     if d >= 32 {
-        return Answer::Refused(13, p);
+        return Err(ParseError::TooMuch(p));
     }
     let a = comparison(tokens, words, p + 1, n, d + 1);
     close(tokens, 1, a)
@@ -332,12 +291,9 @@ fn quantifier(tokens: &[u64], words: &mut [u64], p: usize, n: usize, d: usize, k
     ensures { IsPrimary tokens.now p n d words.old words.new result }
 {
     if d >= 32 {
-        return Answer::Refused(13, p);
+        return Err(ParseError::TooMuch(p));
     }
-    let f = attributes(tokens, words, p + 1, n);
-    let Answer::Read(q, m) = f else {
-        return f;
-    };
+    let (q, m) = attributes(tokens, words, p + 1, n)?;
     let a = comparison(tokens, words, q, m, d + 1);
     let b = close(tokens, 1, a);
     bind(words, kind, n, m, b)
@@ -350,10 +306,10 @@ fn applied(tokens: &[u64], words: &mut [u64], p: usize, n: usize, d: usize, kind
     ensures { Applied tokens.now p n d kind words.old words.new result }
 {
     if d >= 32 {
-        return Answer::Refused(13, p);
+        return Err(ParseError::TooMuch(p));
     }
     if kind_at(tokens, p + 1) != 0 {
-        return Answer::Refused(10, p + 1);
+        return Err(ParseError::NoProgram(p + 1));
     }
     let a = comparison(tokens, words, p + 2, n, d + 1);
     let b = close(tokens, 1, a);

@@ -7,5 +7,4 @@ pub mod UseLaws
 pub mod FactLaws
 pub mod TakeLaws
 pub mod ReadingLaws
-pub mod ClearLaws
 pub mod AgainLaws

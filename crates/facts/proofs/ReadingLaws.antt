@@ -6,12 +6,12 @@ use mathlib.Core.Bool.{true, false}
 use native.Mathlib.Numerals.{add-one}
 use native.Mathlib.Omega.{arith}
 use native.Mathlib.Decide.{dec_lt}
-use lib.ListN.{length, take, drop, drop_of_length-le}
+use lib.ListN.{length, take, drop, replicate, drop_of_length-le}
 use lib.Seq.{drop-cons}
 use Rattle.definition.specs.Text.{Text, ascii, starts, span, gather}
 use Rattle.definition.specs.Limits.{Limits}
 use Rattle.definition.specs.Answer.{ok, refusal}
-use Rattle.definition.specs.Facts.{Line, Fact, Facts, cut, without_return, lines, fact_lines, read_facts, Ascending}
+use Rattle.definition.specs.Facts.{Line, Fact, Facts, cut, without_return, lines, fact_lines, Ascending}
 use Rattle.definition.specs.Join.{join_lines, read_second}
 use Rattle.definition.specs.declared.Refusal.{Refusal}
 use Rattle.definition.proofs.JoinReading.{read_alone}
@@ -22,9 +22,10 @@ use Rattle.breaks.proofs.FirstLine.{cut_first, line_size}
 use Rattle.parts.specs.Entries.{Held, note_all, enter_all, texts_of}
 use Rattle.parts.proofs.HeldLaws.{enter_all_ascending, held_first, held_take, held_length, held_then, note_all_append, note_all_longer, enter_all_append, enter_all_longer}
 use Rattle.facts.specs.declared.Counts.{Counts}
-use Rattle.facts.specs.declared.LineTaken.TheVariants.{More, Fails}
-use Rattle.facts.specs.declared.FactsRead.{FactsRead}
-use Rattle.facts.specs.declared.FactsRead.TheVariants.{Given, Refused}
+use Rattle.std.specs.declared.option.Option.TheVariants.{Some}
+use Rattle.std.specs.declared.result.Result.{Result}
+use Rattle.std.specs.declared.result.Result.TheVariants.{Ok, Err}
+use Rattle.std.specs.Result.{is_err}
 use Rattle.facts.specs.Words.{element_word, fact_word, noted, entered}
 use Rattle.facts.specs.Pass.{limits_of, facts_of}
 use Rattle.facts.specs.Reading.{line_facts, facts_from, all_facts, line_of, more_relations, more_elements, Taken, LinesRead, MeetsAfter, Meets}
@@ -96,7 +97,7 @@ module _ (facts query : Text) where
         subst (λ (ws : List ℕ). Ascending (texts_of facts query ws)) (sym (held_take h.elements))
         (enter_all_ascending facts query (gather (λ f. map element_word f.elements) h.so_far) (take n₀.elements us₀) a)
 
-    pub reading_end : {rs us rs' us' : List ℕ} {c : Counts} → Reading [] rs us c → rs' ≡ rs → us' ≡ us → LinesRead facts query n₀ rs₀ rs' us₀ us' (Given c)
+    pub reading_end : {rs us rs' us' : List ℕ} {c : Counts} → Reading [] rs us c → rs' ≡ rs → us' ≡ us → LinesRead facts query n₀ rs₀ rs' us₀ us' (Ok c)
     unfolding join_lines gather
     reading_end {rs} {us} {rs'} {us'} {c} h p q =
         let e : all_facts facts ≡ h.so_far = h.left ∙ append-nil h.so_far in (
@@ -117,10 +118,10 @@ module _ (facts query : Text) where
           ≡ join_lines (limits_of (length rs) (length us)) (l ∷ ls) (facts_of facts query (take c.relations rs) (take c.elements us) (fs ++ h.so_far))
       so_read fs = h.rows fs ∙ ap₂ (λ (k : Limits) (s : Facts). join_lines k (l ∷ ls) s) same_limits (same_facts (fs ++ h.so_far))
 
-      pub reading_fails : (rs' us' : List ℕ) (q : Refusal) → Taken facts query l rs rs' us us' c (Fails q) → LinesRead facts query n₀ rs₀ rs' us₀ us' (Refused q)
+      pub reading_fails : (rs' us' : List ℕ) (q : Refusal) → Taken facts query l rs rs' us us' c (Err q) → LinesRead facts query n₀ rs₀ rs' us₀ us' (Err q)
       reading_fails rs' us' q t fs = so_read fs ∙ t.1 ls (fs ++ h.so_far)
 
-      pub reading_more : {rs' us' : List ℕ} (d : Counts) → Taken facts query l rs rs' us us' c (More d) → Reading ls rs' us' d
+      pub reading_more : {rs' us' : List ℕ} (d : Counts) → Taken facts query l rs rs' us us' c (Ok (Some d)) → Reading ls rs' us' d
       unfolding gather
       reading_more {rs'} {us'} d t =
           let m : more_relations facts query (line_facts l) (take c.relations rs) ≡ rs_with (h.so_far ++ line_facts l)
@@ -139,10 +140,10 @@ module _ (facts query : Text) where
             elements = held_then h.elements (subst (λ (ws : List ℕ). Held us us' ws d.elements) n t.2) (longer_elements t n);
           }
         where
-          longer_relations : Taken facts query l rs rs' us us' c (More d) → more_relations facts query (line_facts l) (take c.relations rs) ≡ rs_with (h.so_far ++ line_facts l) → c.relations ≤ d.relations
+          longer_relations : Taken facts query l rs rs' us us' c (Ok (Some d)) → more_relations facts query (line_facts l) (take c.relations rs) ≡ rs_with (h.so_far ++ line_facts l) → c.relations ≤ d.relations
           longer_relations t m = omega (arith, t.1.count, h.relations.count, ap length (held_take h.relations), note_all_longer facts query (map fact_word (line_facts l)) (take c.relations rs))
 
-          longer_elements : Taken facts query l rs rs' us us' c (More d) → more_elements facts query (line_facts l) (take c.elements us) ≡ us_with (h.so_far ++ line_facts l) → c.elements ≤ d.elements
+          longer_elements : Taken facts query l rs rs' us us' c (Ok (Some d)) → more_elements facts query (line_facts l) (take c.elements us) ≡ us_with (h.so_far ++ line_facts l) → c.elements ≤ d.elements
           longer_elements t n = omega (arith, t.2.count, h.elements.count, ap length (held_take h.elements), enter_all_longer facts query (gather (λ f. map element_word f.elements) (line_facts l)) (take c.elements us))
 
 -- a refusal at the line that starts at a
@@ -150,30 +151,33 @@ module _ (facts : Text) (a e t : ℕ) (within : a ≤ length facts) (r : e ≡ a
     (d : starts (ascii ".") (take (t - a) (drop a facts)) ≡ false) where
   pub fails_at : (query : Text) (rs₀ us₀ : List ℕ) (n₀ : Counts) (rs us : List ℕ) (c : Counts) → Reading facts query rs₀ us₀ n₀ (lines a (cut (drop a facts))) rs us c → (rs' us' : List ℕ) (q : Refusal)
       → ((ls : List Line) (fs : List Fact) → join_lines (limits_of (length rs) (length us)) (line_of facts a t ∷ ls) (facts_of facts query (take c.relations rs) (take c.elements us) fs) ≡ refusal q)
-      → LinesRead facts query n₀ rs₀ rs' us₀ us' (Refused q)
+      → LinesRead facts query n₀ rs₀ rs' us₀ us' (Err q)
   fails_at query rs₀ us₀ n₀ rs us c h rs' us' q f = go (dec_lt e (length facts))
     where
-      at : (ls : List Line) → lines a (cut (drop a facts)) ≡ line_of facts a t ∷ ls → LinesRead facts query n₀ rs₀ rs' us₀ us' (Refused q)
+      at : (ls : List Line) → lines a (cut (drop a facts)) ≡ line_of facts a t ∷ ls → LinesRead facts query n₀ rs₀ rs' us₀ us' (Err q)
       at ls k = reading_fails facts query rs₀ us₀ n₀ (subst (λ (ms : List Line). Reading facts query rs₀ us₀ n₀ ms rs us c) k h) rs' us' q (d, f)
 
-      go : Dec (e < length facts) → LinesRead facts query n₀ rs₀ rs' us₀ us' (Refused q)
+      go : Dec (e < length facts) → LinesRead facts query n₀ rs₀ rs' us₀ us' (Err q)
       go (yes l) = at (lines (e + 1) (cut (drop (e + 1) facts))) (lines_more facts a e within r b t w d l)
       go (no l) = at [] (lines_last facts a e within r b t w d (omega arith))
 
 -- rows 1 and 2 are not met, so the lines decide
 pub lines_decide : (facts query : Text) (c : Counts) (rs rs' us us' : List ℕ) → ((limits : Limits) (s : Facts) → read_second limits s facts ≡ join_lines limits (fact_lines facts) s)
-    → (r : FactsRead) → LinesRead facts query c rs rs' us us' r → MeetsAfter facts query c rs rs' us us' r
-lines_decide facts query c rs rs' us us' b (Given d) h = (λ fs. b (limits_of (length rs) (length us)) _ ∙ h.0 fs, h.1, h.2)
-lines_decide facts query c rs rs' us us' b (Refused q) h = λ fs. b (limits_of (length rs) (length us)) _ ∙ h fs
+    → (r : Result Counts Refusal) → LinesRead facts query c rs rs' us us' r → MeetsAfter facts query c rs rs' us us' r
+lines_decide facts query c rs rs' us us' b (Ok d) h = (λ fs. b (limits_of (length rs) (length us)) _ ∙ h.0 fs, h.1, h.2)
+lines_decide facts query c rs rs' us us' b (Err q) h = λ fs. b (limits_of (length rs) (length us)) _ ∙ h fs
 
 -- a text read after nothing is read alone
 module _ (facts query : Text) (rs rs' us us' : List ℕ) where
-  abbrev MeetsAlone : FactsRead → Type 0
+  abbrev MeetsAlone : Result Counts Refusal → Type 0
   MeetsAlone r = MeetsAfter facts query (record { relations = 0; elements = 0 }) rs rs' us us' r
 
-  pub alone_given : (c : Counts) → MeetsAlone (Given c) → Meets facts query rs rs' us us' (Given c)
+  pub alone_given : (r : Result Counts Refusal) → is_err r ≡ false → MeetsAlone r → Meets facts query rs rs' us us' r
   unfolding noted entered
-  alone_given c m = (sym (read_alone (limits_of (length rs) (length us)) facts) ∙ m.0 [], m.1, m.2)
+  alone_given (Ok c) e m = (sym (read_alone (limits_of (length rs) (length us)) facts) ∙ m.0 [], m.1, m.2)
+  alone_given (Err q) e m = let z : ◌≡◌ {A = ℕ} 0 1 = cc in absurd (omega arith)
 
-  pub alone_refused : (q : Refusal) → MeetsAlone (Refused q) → read_facts (limits_of (length rs) (length us)) facts ≡ refusal q
-  alone_refused q m = sym (read_alone (limits_of (length rs) (length us)) facts) ∙ m []
+  pub alone_refused : (rs₁ us₁ : List ℕ) → rs₁ ≡ replicate (length rs) 0 → us₁ ≡ replicate (length us) 0 → (r : Result Counts Refusal) → is_err r ≡ true → MeetsAlone r
+      → Meets facts query rs rs₁ us us₁ r
+  alone_refused rs₁ us₁ a b (Ok c) e m = let z : ◌≡◌ {A = ℕ} 0 1 = cc in absurd (omega arith)
+  alone_refused rs₁ us₁ a b (Err q) e m = (sym (read_alone (limits_of (length rs) (length us)) facts) ∙ m [], a, b)

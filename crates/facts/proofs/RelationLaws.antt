@@ -18,7 +18,8 @@ use Rattle.parts.specs.Entries.{position, index, note}
 use Rattle.parts.proofs.HeldLaws.{held_first}
 use Rattle.facts.specs.Words.{relation_of, relations_of}
 use Rattle.facts.specs.Pass.{clash_of, RelationUsed}
-use Rattle.facts.specs.declared.Used.TheVariants.{Count, OtherArity, Clash, Full}
+use Rattle.facts.specs.declared.NotUsed.TheVariants.{OtherArity, Clash, Full}
+use Rattle.std.specs.declared.result.Result.TheVariants.{Ok, Err}
 use Rattle.facts.proofs.WordLaws.{no_and}
 
 -- what the first relation of a name gives, of a value h that only this relation decides
@@ -95,15 +96,15 @@ module _ (facts query : Text) (v : ℕ) where
           ∙ ap (λ (w : ℕ). eqb (w / 4 % 2) 1 && not (eqb (tag_of w) (tag_of v))) the_word
 
       module _ (d : tag_of (get_or words i 0) ≡ tag_of v → ⊥) where
-        pub relation_clash : get_or words i 0 / 4 % 2 ≡ 1 → RelationUsed facts query v words words n Clash
+        pub relation_clash : get_or words i 0 / 4 % 2 ≡ 1 → RelationUsed facts query v words words n (Err Clash)
         relation_clash t = the_clash ∙ rw (eq-eqb (get_or words i 0 / 4 % 2) 1 t, ne_eqb (tag_of (get_or words i 0)) (tag_of v) d)
 
-        pub relation_other : (get_or words i 0 / 4 % 2 ≡ 1 → ⊥) → RelationUsed facts query v words words n OtherArity
+        pub relation_other : (get_or words i 0 / 4 % 2 ≡ 1 → ⊥) → RelationUsed facts query v words words n (Err OtherArity)
         unfolding use_relation
         relation_other t =
             (λ k p. rw (the_arity, ne_eqb (tag_of (get_or words i 0)) (tag_of v) d), the_clash ∙ rw (ne_eqb (get_or words i 0 / 4 % 2) 1 t))
 
-      pub relation_known : tag_of (get_or words i 0) ≡ tag_of v → RelationUsed facts query v words words n (Count n)
+      pub relation_known : tag_of (get_or words i 0) ≡ tag_of v → RelationUsed facts query v words words n (Ok n)
       unfolding use_relation note
       relation_known d =
           let t = lt-ltb (index facts query v (take n words)) (length (take n words)) here in
@@ -122,13 +123,13 @@ module _ (facts query : Text) (v : ℕ) where
       unfolding index
       no_clash = clash_unknown facts query (text_of facts query v) (tag_of v) (take n words) (omega (arith, past))
 
-      pub relation_full : n ≡ length words → RelationUsed facts query v words words n Full
+      pub relation_full : n ≡ length words → RelationUsed facts query v words words n (Err Full)
       unfolding use_relation add_relation
       relation_full d =
           let m : length words ≤ length (relations_of facts query (take n words)) = omega (arith, size, length-map (take n words) (relation_of facts query)) in
           (λ k p. rw (no_arity, le-leb (length words) (length (relations_of facts query (take n words))) m), no_clash)
 
-      pub relation_new : n < length words → RelationUsed facts query v words (set words n v) n (Count (n + 1))
+      pub relation_new : n < length words → RelationUsed facts query v words (set words n v) n (Ok (n + 1))
       unfolding use_relation note add_relation
       relation_new d =
           let t = le-ltb (index facts query v (take n words)) (length (take n words)) (omega (arith, past)) in

@@ -19,8 +19,8 @@ use Rattle.parts.proofs.HeldLaws.{held_first}
 use Rattle.facts.specs.declared.Item.{Item}
 use Rattle.facts.specs.declared.FactLine.{FactLine}
 use Rattle.facts.specs.declared.Counts.{Counts}
-use Rattle.facts.specs.declared.FactUsed.TheVariants.{Fits, Refused}
-use Rattle.facts.specs.declared.LineTaken.TheVariants.{More, Dot, Fails}
+use Rattle.std.specs.declared.option.Option.TheVariants.{Some, None}
+use Rattle.std.specs.declared.result.Result.TheVariants.{Ok, Err}
 use Rattle.facts.specs.Lines.{start_of, items_of, element_of, elements_of, fact_of, Role, end, skip, says, role, Within, AllWithin}
 use Rattle.facts.specs.Words.{element_at, elements_at, fact_at, item_word, line_word, element_word, fact_word}
 use Rattle.facts.specs.Pass.{with_elements, FactTaken}
@@ -49,17 +49,17 @@ was_said false true x y e = let z : ◌≡◌ {A = ℕ} 0 1 = cc in absurd (omeg
 was_said false false x y e = (refl, refl, cc)
 
 module _ (facts query : Text) (l : Line) (rs us : List ℕ) (c : Counts) where
-  pub taken_dot : end ≡ role l → Taken facts query l rs rs us us c Dot
+  pub taken_dot : end ≡ role l → Taken facts query l rs rs us us c (Ok None)
   unfolding role by_role
   taken_dot e = (was_end (starts (ascii ".") l.bytes) (skipped l.bytes) (fact l) (sym e), refl, refl)
 
-  pub taken_skip : c.relations ≤ length rs → c.elements ≤ length us → skip ≡ role l → Taken facts query l rs rs us us c (More c)
+  pub taken_skip : c.relations ≤ length rs → c.elements ≤ length us → skip ≡ role l → Taken facts query l rs rs us us c (Ok (Some c))
   unfolding role by_role line_facts join_lines note_all enter_all gather
   taken_skip a b e =
       let w = was_skip (starts (ascii ".") l.bytes) (skipped l.bytes) (fact l) (sym e) in
       (w.0, rw w.1 (held_first rs c.relations a), rw w.1 (held_first us c.elements b), λ ls fs. rw (w.1, append-nil))
 
-  pub taken_wrong : (q : Refusal) → says (refusal q) ≡ role l → Taken facts query l rs rs us us c (Fails q)
+  pub taken_wrong : (q : Refusal) → says (refusal q) ≡ role l → Taken facts query l rs rs us us c (Err q)
   unfolding role by_role join_lines
   taken_wrong q e =
       let w = was_said (starts (ascii ".") l.bytes) (skipped l.bytes) (fact l) (refusal q) (sym e) in
@@ -149,11 +149,11 @@ module _ (facts query : Text) (a e : ℕ) (h : a ≤ e) (w : e ≤ length facts)
     unfolding gather
     elements_more = rw (gives, append-nil, item_words)
 
-    pub taken_refused : (q : Refusal) → FactTaken facts query a f rs rs' us us' c (Refused q) → Taken facts query (line_of facts a e) rs rs' us us' c (Fails q)
+    pub taken_refused : (q : Refusal) → FactTaken facts query a f rs rs' us us' c (Err q) → Taken facts query (line_of facts a e) rs rs' us us' c (Err q)
     unfolding join_lines
     taken_refused q t = (what.0, λ ls fs. rw (what.1, what.2, t fs))
 
-    pub taken_fact : (d : Counts) → FactTaken facts query a f rs rs' us us' c (Fits d) → Taken facts query (line_of facts a e) rs rs' us us' c (More d)
+    pub taken_fact : (d : Counts) → FactTaken facts query a f rs rs' us us' c (Ok d) → Taken facts query (line_of facts a e) rs rs' us us' c (Ok (Some d))
     unfolding join_lines
     taken_fact d t =
         (what.0, rw relations_more t.0, rw elements_more t.1, λ ls fs. rw (what.1, what.2, t.2 fs, relations_more, elements_more, gives))

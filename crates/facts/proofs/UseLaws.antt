@@ -16,12 +16,12 @@ use Rattle.definition.specs.Facts.{insert, use_elements, Ascending}
 use Rattle.definition.specs.Calls.{part_text}
 use Rattle.parts.specs.Packed.{pack, text_of}
 use Rattle.parts.specs.Entries.{enter, enter_all, texts_of, in_front, count_in, Held}
-use Rattle.parts.specs.declared.Entered.TheVariants.{Count, Full}
+use Rattle.std.specs.Prelude.{Some, None}
 use Rattle.parts.proofs.PackLaws.{pack_part}
 use Rattle.parts.proofs.HeldLaws.{length_texts, texts_enter, enter_all_ascending, enter_longer, enter_all_append, held_first, held_take, held_length, held_then, held_front, no_room}
 use Rattle.facts.specs.declared.Item.{Item}
 use Rattle.facts.specs.declared.FactLine.{FactLine}
-use Rattle.facts.specs.declared.ElementsUsed.TheVariants.{Elements, TooMany}
+use Rattle.std.specs.declared.result.Result.TheVariants.{Ok, Err}
 use Rattle.facts.specs.Lines.{start_of, items_of, item_at, Within, AllWithin}
 use Rattle.facts.specs.Words.{element_at, elements_at, item_word}
 use Rattle.facts.specs.Pass.{limits_of, UniverseUsed}
@@ -85,7 +85,7 @@ module _ (facts query : Text) (a : ℕ) (f : FactLine) (old : List ℕ) (n : ℕ
   entering_start h = record { held = held_first old n h; uses = λ k. refl }
 
   module _ (words : List ℕ) (count i : ℕ) (h : Entering words count i) where
-    pub entering_end : f.arity ≤ i → f.arity ≤ ARITY → UniverseUsed facts query a f old words n (Elements count)
+    pub entering_end : f.arity ≤ i → f.arity ≤ ARITY → UniverseUsed facts query a f old words n (Ok count)
     unfolding entered_to use_elements
     entering_end l s =
         let m : length (items_of f) ≤ i = rw (length-take-le f.arity (f.first ∷ f.second ∷ f.third ∷ []) s) l in
@@ -122,7 +122,7 @@ module _ (facts query : Text) (a : ℕ) (f : FactLine) (old : List ℕ) (n : ℕ
           ∙ sym (texts_enter facts query v (entered_to i))
           ∙ ap (texts_of facts query) (ap (enter facts query v) (sym (held_take h.held)) ∙ one_more)
 
-      pub entering_full : Full ≡ count_in es words → UniverseUsed facts query a f old words n (TooMany (a + (item_at f i).place))
+      pub entering_full : None ≡ count_in es words → UniverseUsed facts query a f old words n (Err (a + (item_at f i).place))
       unfolding use_elements
       entering_full c =
           let s : length words < length es = no_room words es c in
@@ -130,7 +130,7 @@ module _ (facts query : Text) (a : ℕ) (f : FactLine) (old : List ℕ) (n : ℕ
           = lt-ltb (length old) (length (texts_of facts query (entered_to (i + 1)))) (omega (arith, s, ap length one_more, length_texts facts query (entered_to (i + 1)), held_length h.held)) in
           λ k. h.uses k ∙ rw (items_from f small i l, value_in, m)
 
-      pub entering_next : (new : List ℕ) (m : ℕ) → new ≡ in_front es words → Count m ≡ count_in es words → Entering new m (i + 1)
+      pub entering_next : (new : List ℕ) (m : ℕ) → new ≡ in_front es words → Some m ≡ count_in es words → Entering new m (i + 1)
       unfolding use_elements
       entering_next new m w c =
           let g : Held words new es m = held_front words new es m w c in

@@ -1,5 +1,5 @@
 -- The facts read again, for their tables: one fact after another.
-use Rattle.std.specs.Prelude.{ℕ, ◌+◌, ◌-◌, ◌<◌, ◌≤◌, ◌≡◌, true, false, [], ◌∷◌, length}
+use Rattle.std.specs.Prelude.{ℕ, ◌+◌, ◌-◌, ◌<◌, ◌≤◌, ◌≡◌, true, false, [], ◌∷◌, length, Option, Some, None}
 use Rattle.definition.specs.Text.{Text, ascii, starts}
 use Rattle.definition.specs.Answer.{ok}
 use Rattle.facts.specs.Lines.{AllWithin, line_at, fact_of, role, says}
@@ -7,8 +7,7 @@ use Rattle.facts.specs.Words.{fact_at}
 use Rattle.facts.specs.Reading.{line_facts, facts_from}
 use Rattle.facts.specs.declared.LineFact.{LineFact}
 use Rattle.facts.specs.declared.LineFact.TheVariants.{Has, Lacks, Last}
-use Rattle.facts.specs.declared.NextFact.{NextFact}
-use Rattle.facts.specs.declared.NextFact.TheVariants.{Fact, NoMore}
+use Rattle.facts.specs.declared.FactLine.{FactLine}
 
 -- what the line l gives, wherever it starts
 abbrev pub FactOfLine : Text → LineFact → Type 0
@@ -17,7 +16,7 @@ FactOfLine l Lacks = (i : ℕ) → (starts (ascii ".") l ≡ false) × (line_fac
 FactOfLine l Last = starts (ascii ".") l ≡ true
 
 -- the facts from a place on are the next one and those from the place after its line on; the line has a byte at least, and an end
-abbrev pub NextIs : Text → ℕ → NextFact → Type 0
-NextIs facts at (Fact a f next) =
+abbrev pub NextIs : Text → ℕ → Option (ℕ × FactLine × ℕ) → Type 0
+NextIs facts at (Some (a, f, next)) =
     (facts_from facts at ≡ fact_at facts a f ∷ facts_from facts next) × (at ≤ a) × (a + 1 < next) × (a < length facts) × AllWithin (length facts - a) f
-NextIs facts at NoMore = facts_from facts at ≡ []
+NextIs facts at None = facts_from facts at ≡ []

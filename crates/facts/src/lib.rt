@@ -12,10 +12,10 @@ ghost use Rattle.facts.specs.Pass.{RelationUsed, UniverseUsed, FactTaken};
 ghost use Rattle.facts.specs.Reading.{line_of, Taken, LinesRead, MeetsAfter, Meets};
 ghost use Rattle.facts.specs.Again.{FactOfLine, NextIs};
 
-use breaks::{FactsBytes, check_bytes, line_end};
+use breaks::{check_bytes, line_end};
 use definition::Refusal;
 use hints::enter_hinted;
-use parts::{Entered, index_of, packed};
+use parts::{index_of, packed};
 use texts::{Class, is_name, run_end, starts_with};
 
 // An element of a line: its place in the line, which is its opening quote's if it has one, and the length of its value.
@@ -83,16 +83,6 @@ fn quoted_at(l: &[u8], b: usize) -> Next
     )
 }
 
-// The byte at i; 0 past the end.
-fn byte_at(l: &[u8], i: usize) -> u8
-    ensures { result ≡ get_or l.now i 0 }
-{
-    if l.len() <= i {
-        return 0;
-    }
-    l[i]
-}
-
 // The bare element that starts at b: it ends at a blank or the line's end, and a quote makes it malformed.
 fn bare_at(l: &[u8], b: usize) -> Next
     requires b_in_bounds { b < length l.now }
@@ -104,7 +94,7 @@ fn bare_at(l: &[u8], b: usize) -> Next
     if 32 < e - b {
         return Next::Wrong(b);
     }
-    if byte_at(l, e) == 34 {
+    if l.get(e) == Some(&34) {
         return Next::Wrong(b);
     }
     Next::Found(
@@ -230,24 +220,23 @@ pub fn read_line(l: &[u8]) -> LineRead
     read_fact(l)
 }
 
-// How many relations there are after the use of a name, or that it has another arity, in this text or in the first, or that there is no
-// room for one more.
+// Why a name is not used: it has another arity, in this text or in the first, or there is no room for one more relation.
 #[derive(Clone, Copy)]
-enum Used {
-    Count(usize),
+enum NotUsed {
     OtherArity,
     Clash,
     Full,
 }
 
-// The use of the name v, whose tag is its arity, after the first n relations: those of the first text are parts of `query`.
+// How many relations there are once the name v, whose tag is its arity, is used after the first n: those of the first text are parts of
+// `query`.
 fn use_relation<'a>(
     facts: &'a [u8],
     query: &'a [u8],
     relations: &mut [usize],
     n: usize,
     v: usize,
-) -> Used
+) -> Result<usize, NotUsed>
     requires { n ≤ length relations.old }
     ensures { RelationUsed facts.now query.now v relations.old relations.new n result }
 {
@@ -255,18 +244,18 @@ fn use_relation<'a>(
     if k < n {
         let w = relations[k];
         if w % 4 == v % 4 {
-            return Used::Count(n);
+            return Ok(n);
         }
         if w / 4 % 2 == 1 {
-            return Used::Clash;
+            return Err(NotUsed::Clash);
         }
-        return Used::OtherArity;
+        return Err(NotUsed::OtherArity);
     }
     if n == relations.len() {
-        return Used::Full;
+        return Err(NotUsed::Full);
     }
     relations[n] = v;
-    Used::Count(n + 1)
+    Ok(n + 1)
 }
 
 fn item_at(f: FactLine, i: usize) -> Item
@@ -299,14 +288,8 @@ fn element_word(a: usize, x: Item) -> usize
     packed(0, a + value_start(x), x.len, x.quoted as usize)
 }
 
-// How many elements there are after a fact, or the place of the one for which there is no room.
-#[derive(Clone, Copy)]
-enum ElementsUsed {
-    Elements(usize),
-    TooMany(usize),
-}
-
-// Enters the elements of a fact of the line that starts at a into the universe of n elements.
+// How many elements there are once those of a fact of the line that starts at a are entered into the universe of n, or the place of the one
+// for which there is no room.
 fn use_elements<'a>(
     facts: &'a [u8],
     query: &'a [u8],
@@ -315,24 +298,21 @@ fn use_elements<'a>(
     n: usize,
     a: usize,
     f: FactLine,
-) -> ElementsUsed
+) -> Result<usize, usize>
     requires { (n ≤ length universe.old) × (a ≤ length facts.now) × (length facts.now ≤ FACT_BYTES) × AllWithin (length facts.now - a) f × Ascending (texts_of facts.now query.now (take n universe.old)) }
     ensures { UniverseUsed facts.now query.now a f universe.old universe.new n result }
 {
-    let arity = f.arity;
     let mut count = n;
-    let mut i: usize = 0;
-    while i < arity {
+    for i in 0..f.arity {
         let x = item_at(f, i);
         match enter_hinted(facts, query, universe, count, hints, element_word(a, x)) {
-            Entered::Full => return ElementsUsed::TooMany(a + x.place),
-            Entered::Count(m) => {
+            None => return Err(a + x.place),
+            Some(m) => {
                 count = m;
             }
         }
-        i += 1;
     }
-    ElementsUsed::Elements(count)
+    Ok(count)
 }
 
 // "at the line's last element or, with none, its name"
@@ -355,12 +335,6 @@ pub struct Counts {
     pub elements: usize,
 }
 
-#[derive(Clone, Copy)]
-enum FactUsed {
-    Fits(Counts),
-    Refused(Refusal),
-}
-
 // Takes in a fact of the line that starts at a: "then 5 for another arity .." or 20; "then 6, 7".
 fn with_fact<'a>(
     facts: &'a [u8],
@@ -371,41 +345,33 @@ fn with_fact<'a>(
     c: Counts,
     a: usize,
     f: FactLine,
-) -> FactUsed
+) -> Result<Counts, Refusal>
     requires { (c.relations ≤ length relations.old) × (c.elements ≤ length universe.old) × (a ≤ length facts.now) × (length facts.now ≤ FACT_BYTES) × AllWithin (length facts.now - a) f × Ascending (texts_of facts.now query.now (take c.elements universe.old)) }
     ensures { FactTaken facts.now query.now a f relations.old relations.new universe.old universe.new c result }
 {
     let n = c.relations;
     let m = c.elements;
-    match use_relation(
+    let r = match use_relation(
         facts,
         query,
         relations,
         n,
         packed(0, a, f.name_len, f.arity),
     ) {
-        Used::Full => FactUsed::Refused(Refusal::TooManyRelations(a)),
-        Used::Clash => FactUsed::Refused(Refusal::FirstArity(a)),
-        Used::OtherArity => FactUsed::Refused(Refusal::Arity(last_place(a, f))),
-        Used::Count(r) => match use_elements(facts, query, universe, hints, m, a, f) {
-            ElementsUsed::TooMany(p) => FactUsed::Refused(Refusal::TooManyElements(p)),
-            ElementsUsed::Elements(e) => FactUsed::Fits(Counts {
-                relations: r,
-                elements: e,
-            }),
-        },
-    }
+        Err(NotUsed::Full) => return Err(Refusal::TooManyRelations(a)),
+        Err(NotUsed::Clash) => return Err(Refusal::FirstArity(a)),
+        Err(NotUsed::OtherArity) => return Err(Refusal::Arity(last_place(a, f))),
+        Ok(r) => r,
+    };
+    let e = use_elements(facts, query, universe, hints, m, a, f).map_err(Refusal::TooManyElements)?;
+    Ok(Counts {
+        relations: r,
+        elements: e,
+    })
 }
 
-// What a line makes of the lists: more of them, the dot that ends the facts, or a refusal.
-#[derive(Clone, Copy)]
-enum LineTaken {
-    More(Counts),
-    Dot,
-    Fails(Refusal),
-}
-
-// Takes in the line from a to e, which is handed to the line reader as a part of the text.
+// Takes in the line from a to e, which is handed to the line reader as a part of the text. There are no more lists at the dot that ends
+// the facts.
 fn take_line<'a>(
     facts: &'a [u8],
     query: &'a [u8],
@@ -415,28 +381,21 @@ fn take_line<'a>(
     c: Counts,
     a: usize,
     e: usize,
-) -> LineTaken
+) -> Result<Option<Counts>, Refusal>
     requires { (c.relations ≤ length relations.old) × (c.elements ≤ length universe.old) × (a ≤ e) × (e ≤ length facts.now) × (length facts.now ≤ FACT_BYTES) × Ascending (texts_of facts.now query.now (take c.elements universe.old)) }
     ensures { Taken facts.now query.now (line_of facts.now a e) relations.old relations.new universe.old universe.new c result }
 {
     match read_line(&facts[a..e]) {
-        LineRead::End => LineTaken::Dot,
-        LineRead::Skipped => LineTaken::More(c),
-        LineRead::BadName => LineTaken::Fails(Refusal::FactName(a)),
-        LineRead::BadElement(p) => LineTaken::Fails(Refusal::FactElement(a + p)),
-        LineRead::TooMany(p) => LineTaken::Fails(Refusal::Arity(a + p)),
-        LineRead::Holds(f) => match with_fact(facts, query, relations, universe, hints, c, a, f) {
-            FactUsed::Refused(q) => LineTaken::Fails(q),
-            FactUsed::Fits(d) => LineTaken::More(d),
-        },
+        LineRead::End => Ok(None),
+        LineRead::Skipped => Ok(Some(c)),
+        LineRead::BadName => Err(Refusal::FactName(a)),
+        LineRead::BadElement(p) => Err(Refusal::FactElement(a + p)),
+        LineRead::TooMany(p) => Err(Refusal::Arity(a + p)),
+        LineRead::Holds(f) => {
+            let d = with_fact(facts, query, relations, universe, hints, c, a, f)?;
+            Ok(Some(d))
+        }
     }
-}
-
-// What the facts give: how many relations and elements the lent words hold, or why they are refused.
-#[derive(Clone, Copy)]
-pub enum FactsRead {
-    Given(Counts),
-    Refused(Refusal),
 }
 
 // "line by line, in each 3, then per element 4 and, at the first too many, 5; then 5 for another arity .." or 20; "then 6, 7"
@@ -446,7 +405,7 @@ fn read_lines<'a>(
     relations: &mut [usize],
     universe: &mut [usize],
     c: Counts,
-) -> FactsRead
+) -> Result<Counts, Refusal>
     requires { (c.relations ≤ length relations.old) × (c.elements ≤ length universe.old) × (length facts.now ≤ FACT_BYTES) × Ascending (texts_of facts.now query.now (take c.elements universe.old)) }
     ensures { LinesRead facts.now query.now c relations.old relations.new universe.old universe.new result }
 {
@@ -456,15 +415,12 @@ fn read_lines<'a>(
     loop {
         let e = run_end(facts, a, Class::NoEnd);
         let t = line_end(facts, a, e);
-        match take_line(facts, query, relations, universe, &mut hints, k, a, t) {
-            LineTaken::Dot => return FactsRead::Given(k),
-            LineTaken::Fails(q) => return FactsRead::Refused(q),
-            LineTaken::More(d) => {
-                k = d;
-            }
-        }
+        let Some(d) = take_line(facts, query, relations, universe, &mut hints, k, a, t)? else {
+            return Ok(k);
+        };
+        k = d;
         if e == facts.len() {
-            return FactsRead::Given(k);
+            return Ok(k);
         }
         a = e + 1;
     }
@@ -479,24 +435,12 @@ pub fn read_second<'a>(
     relations: &mut [usize],
     universe: &mut [usize],
     c: Counts,
-) -> FactsRead
+) -> Result<Counts, Refusal>
     requires { (c.relations ≤ length relations.old) × (c.elements ≤ length universe.old) × Ascending (texts_of facts.now query.now (take c.elements universe.old)) }
     ensures { MeetsAfter facts.now query.now c relations.old relations.new universe.old universe.new result }
 {
-    match check_bytes(facts) {
-        FactsBytes::Wrong(q) => FactsRead::Refused(q),
-        FactsBytes::Right => read_lines(facts, query, relations, universe, c),
-    }
-}
-
-fn clear(words: &mut [usize])
-    ensures { words.new ≡ replicate (length words.old) 0 }
-{
-    let mut i: usize = 0;
-    while i < words.len() {
-        words[i] = 0;
-        i += 1;
-    }
+    check_bytes(facts)?;
+    read_lines(facts, query, relations, universe, c)
 }
 
 // Reads the facts (rows 1 to 7): the relations in order of first appearance and the universe in byte order, as parts in the lent words,
@@ -506,21 +450,19 @@ pub fn read_facts<'a>(
     query: &'a [u8],
     relations: &mut [usize],
     universe: &mut [usize],
-) -> FactsRead
+) -> Result<Counts, Refusal>
     ensures { Meets facts.now query.now relations.old relations.new universe.old universe.new result }
 {
     let none = Counts {
         relations: 0,
         elements: 0,
     };
-    match read_second(facts, query, relations, universe, none) {
-        FactsRead::Given(c) => FactsRead::Given(c),
-        FactsRead::Refused(q) => {
-            clear(relations);
-            clear(universe);
-            FactsRead::Refused(q)
-        }
+    let read = read_second(facts, query, relations, universe, none);
+    if read.is_err() {
+        relations.fill(0);
+        universe.fill(0);
     }
+    read
 }
 
 // The fact of a line that is read again, if it holds one; or the dot that ends the facts.
@@ -544,15 +486,9 @@ fn line_fact(l: &[u8]) -> LineFact
     }
 }
 
-// The next fact of facts that are read again: where its line starts, what it holds, and where the line after it starts.
-#[derive(Clone, Copy)]
-pub enum NextFact {
-    Fact(usize, FactLine, usize),
-    NoMore,
-}
-
-// The first fact of the lines from `at` on, where a line starts or the text has ended.
-pub fn next_fact(facts: &[u8], at: usize) -> NextFact
+// The first fact of the lines from `at` on, where a line starts or the text has ended: where its line starts, what it holds, and where the
+// line after it starts.
+pub fn next_fact(facts: &[u8], at: usize) -> Option<(usize, FactLine, usize)>
     requires { length facts.now ≤ FACT_BYTES }
     ensures { NextIs facts.now at result }
 {
@@ -561,12 +497,12 @@ pub fn next_fact(facts: &[u8], at: usize) -> NextFact
         let e = run_end(facts, a, Class::NoEnd);
         let t = line_end(facts, a, e);
         match line_fact(&facts[a..t]) {
-            LineFact::Has(f) => return NextFact::Fact(a, f, e + 1),
-            LineFact::Last => return NextFact::NoMore,
+            LineFact::Has(f) => return Some((a, f, e + 1)),
+            LineFact::Last => return None,
             LineFact::Lacks => {
                 a = e + 1;
             }
         }
     }
-    NextFact::NoMore
+    None
 }

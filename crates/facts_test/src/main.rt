@@ -2,7 +2,8 @@
 // after another text; then document 01's own limits, below, at and above each.
 #![tactic(auto)]
 
-use facts::{Counts, FactsRead, read_facts, read_second};
+use definition::Refusal;
+use facts::{Counts, read_facts, read_second};
 use lines::{put, put_text};
 use page::{put_number, put_refusal};
 use parts::{packed, part};
@@ -14,14 +15,14 @@ fn write_line(rt: &impl Print, line: &mut [u8], n: usize) -> io::Result<()> {
     rt.write_all(part(line, 0, end))
 }
 
-fn put_read(line: &mut [u8], f: FactsRead) -> usize {
+fn put_read(line: &mut [u8], f: Result<Counts, Refusal>) -> usize {
     match f {
-        FactsRead::Given(c) => {
+        Ok(c) => {
             let p = put_text(line, 0, b"given", true);
             let m = put_number(line, p, c.relations as u64);
             put_number(line, m, c.elements as u64)
         }
-        FactsRead::Refused(q) => put_refusal(line, q),
+        Err(q) => put_refusal(line, q),
     }
 }
 
@@ -160,12 +161,10 @@ fn many_relations(rt: &impl Print) -> io::Result<()> {
 // 63, 64 and 65 elements of one byte, one on each line
 fn many_elements(rt: &impl Print) -> io::Result<()> {
     let mut text = [10u8; 260];
-    let mut i: usize = 0;
-    while i < 65 {
+    for i in 0..65 {
         text[4 * i] = b'A';
         text[4 * i + 1] = b' ';
         text[4 * i + 2] = 48 + i as u8;
-        i += 1;
     }
     show_full(rt, &text[..252])?;
     show_full(rt, &text[..256])?;

@@ -7,7 +7,7 @@ ghost use Rattle.definition.specs.Answer.{ending_number};
 ghost use Rattle.parts.specs.Packed.{part_of};
 ghost use Rattle.fields.specs.Fields.{record_fields, checked_fields, ran_fields, chained_fields, joined_fields, part_fields};
 
-use definition::{Chained, Checked, Ending, Joined, Ran, Record, RunAnswer, Verdict};
+use definition::{Checked, Ending, Record, Refusal, RefusedJoin, RunAnswer};
 
 // A relation: the first place of its name (text 0 is the facts, 1 the query), its arity, its first word in the store, and the number of its
 // tuples as loaded.
@@ -91,21 +91,7 @@ fn all_fields(rs: [Record; 16]) -> [CRecord; 16]
     requires { length rs ≡ 16 }
     ensures { result ≡ map record_fields rs }
 {
-    let none = CRecord {
-        text: 0,
-        offset: 0,
-        length: 0,
-        arity: 0,
-        first: 0,
-        count: 0,
-    };
-    let mut cs = [none; 16];
-    let mut i: usize = 0;
-    while i < 16 {
-        cs[i] = record_fields(rs[i]);
-        i += 1;
-    }
-    cs
+    rs.map(record_fields)
 }
 
 pub fn checked_fields(c: Checked) -> CChecked
@@ -116,7 +102,7 @@ pub fn checked_fields(c: Checked) -> CChecked
     let records = all_fields(rs);
     let v = c.verdict;
     match v {
-        Verdict::Accepted(f) => CChecked {
+        Ok(f) => CChecked {
             refusal: 0,
             place: 0,
             universe: f.universe as u64,
@@ -124,7 +110,7 @@ pub fn checked_fields(c: Checked) -> CChecked
             relations: f.relations as u64,
             records,
         },
-        Verdict::Refused(q) => CChecked {
+        Err(q) => CChecked {
             refusal: answers::number(q) as u64,
             place: answers::place(q) as u64,
             universe: 0,
@@ -149,13 +135,7 @@ fn wide_counts(ns: [usize; 16]) -> [u64; 16]
     requires { length ns ≡ 16 }
     ensures { result ≡ ns }
 {
-    let mut cs = [0u64; 16];
-    let mut i: usize = 0;
-    while i < 16 {
-        cs[i] = ns[i] as u64;
-        i += 1;
-    }
-    cs
+    ns.map(|n| n as u64)
 }
 
 pub fn ran_fields(a: RunAnswer) -> CRan
@@ -166,7 +146,7 @@ pub fn ran_fields(a: RunAnswer) -> CRan
     let counts = wide_counts(ns);
     let ran = a.ran;
     match ran {
-        Ran::Ended(s) => {
+        Ok(s) => {
             let ending = s.ending;
             CRan {
                 refusal: 0,
@@ -177,7 +157,7 @@ pub fn ran_fields(a: RunAnswer) -> CRan
                 counts,
             }
         }
-        Ran::Refused(q) => CRan {
+        Err(q) => CRan {
             refusal: answers::number(q) as u64,
             place: answers::place(q) as u64,
             ending: 0,
@@ -188,16 +168,16 @@ pub fn ran_fields(a: RunAnswer) -> CRan
     }
 }
 
-pub fn chained_fields(a: Chained) -> CChained
+pub fn chained_fields(a: Result<usize, Refusal>) -> CChained
     ensures { result ≡ chained_fields a }
 {
     match a {
-        Chained::Chain(n) => CChained {
+        Ok(n) => CChained {
             refusal: 0,
             place: 0,
             count: n as u64,
         },
-        Chained::Refused(q) => CChained {
+        Err(q) => CChained {
             refusal: answers::number(q) as u64,
             place: answers::place(q) as u64,
             count: 0,
@@ -205,20 +185,20 @@ pub fn chained_fields(a: Chained) -> CChained
     }
 }
 
-pub fn joined_fields(a: Joined) -> CJoined
+pub fn joined_fields(a: Result<usize, RefusedJoin>) -> CJoined
     ensures { result ≡ joined_fields a }
 {
     match a {
-        Joined::Length(n) => CJoined {
+        Ok(n) => CJoined {
             refusal: 0,
             place: 0,
             text: 0,
             length: n as u64,
         },
-        Joined::Refused(q, text) => CJoined {
-            refusal: answers::number(q) as u64,
-            place: answers::place(q) as u64,
-            text: text as u64,
+        Err(q) => CJoined {
+            refusal: answers::number(q.refusal) as u64,
+            place: answers::place(q.refusal) as u64,
+            text: q.text as u64,
             length: 0,
         },
     }

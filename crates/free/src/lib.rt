@@ -9,16 +9,11 @@ use slots::Found;
 use words::word_at;
 
 // Whether a word of a kind is a term's.
+#[tactic(auto, unfolding(crate::specs::Words::is_leaf))]
 fn is_leaf(c: u64) -> bool
     ensures { result ≡ is_leaf c }
 {
-    if c == 3 {
-        return true;
-    }
-    if c == 43 {
-        return true;
-    }
-    c == 9
+    matches!(c, 3 | 9 | 43)
 }
 
 // The attributes of the terms just before place k.
@@ -97,10 +92,7 @@ pub fn fill(words: &[u64], f: Found, ids: &[u64], fr: &mut [u64], s: usize, e: u
     ensures filled { Filled words.now (digit_at f ids.now) fr.new s e }
     ensures small_2 { Small fr.new }
 {
-    let mut k = s;
-    while k < e {
-        let v = free_word(words, f, ids, fr, s, k);
-        fr[k] = v;
-        k += 1;
+    for k in s..e {
+        fr[k] = free_word(words, f, ids, fr, s, k);
     }
 }

@@ -8,24 +8,16 @@ ghost use Rattle.parts.specs.Packed.{text_of};
 ghost use Rattle.parts.specs.Places.{entered_at, PlaceWithin};
 ghost use Rattle.parts.specs.Entries.{position, enter, in_front, count_in, texts_of};
 
-use parts::{Entered, Place, enter_at, find_place, position_of, text_of};
+use parts::{enter_at, find_place, position_of, text_of};
 use texts::same;
-
-fn wide(x: u8) -> usize
-    ensures { (result ≡ x) × (result < 256) }
-{
-    x as usize
-}
 
 // Where the hints for a text start in the table: a number made of its bytes.
 fn mark(t: &[u8]) -> usize
     ensures { result < 256 }
 {
-    let mut h: usize = 0;
-    let mut i: usize = 0;
-    while i < t.len() {
-        h = (h * 31 + wide(t[i])) % 256;
-        i += 1;
+    let mut h = 0;
+    for x in t {
+        h = (h * 31 + usize::from(*x)) % 256;
     }
     h
 }
@@ -35,14 +27,12 @@ fn note(hints: &mut [u8; 256], h: usize, k: u8)
     requires { h < 256 }
     ensures { length hints.new ≡ length hints.old }
 {
-    let mut j = h;
-    while j < h + 256 {
+    for j in h..h + 256 {
         let i = j % 256;
         if hints[i] == 255 {
             hints[i] = k;
             return;
         }
-        j += 1;
     }
 }
 
@@ -51,11 +41,8 @@ pub fn hints_of<'a>(facts: &'a [u8], query: &'a [u8], parts: &[usize]) -> [u8; 2
     ensures { length result ≡ 256 }
 {
     let mut hints = [255u8; 256];
-    let mut k: usize = 0;
-    while k < parts.len() {
-        let w = parts[k];
-        note(&mut hints, mark(text_of(facts, query, w)), (k % 256) as u8);
-        k += 1;
+    for (k, w) in parts.iter().enumerate() {
+        note(&mut hints, mark(text_of(facts, query, *w)), (k % 256) as u8);
     }
     hints
 }
@@ -72,17 +59,11 @@ fn proposed<'a>(
     requires { h < 256 }
     ensures { result < length parts.now → same t.now (text_of facts.now query.now (get_or parts.now result 0)) ≡ true }
 {
-    let mut j = h;
-    while j < h + 256 {
-        let k = wide(hints[j % 256]);
-        if parts.len() <= k {
+    for j in h..h + 256 {
+        let k = usize::from(hints[j % 256]);
+        if parts.len() <= k || same(t, text_of(facts, query, parts[k])) {
             return k;
         }
-        let w = parts[k];
-        if same(t, text_of(facts, query, w)) {
-            return k;
-        }
-        j += 1;
     }
     parts.len()
 }
@@ -107,35 +88,26 @@ pub fn hinted_position<'a>(
 fn moved(k: u8, p: u8) -> u8
     ensures { result < 256 }
 {
-    if k < p {
-        return k;
-    }
-    if k == 255 {
-        return k;
-    }
-    k + 1
+    if k < p || k == 255 { k } else { k + 1 }
 }
 
 // Makes room for the index p: the hints from it on are one more.
 fn shift(hints: &mut [u8; 256], p: u8)
     ensures { length hints.new ≡ length hints.old }
 {
-    let mut i: usize = 0;
-    while i < 256 {
-        let k = hints[i];
-        hints[i] = moved(k, p);
-        i += 1;
+    for k in hints.iter_mut() {
+        *k = moved(*k, p);
     }
 }
 
 // Notes the place of a part that was looked for, among the hints from h on.
-fn learn(hints: &mut [u8; 256], h: usize, place: Place)
+fn learn(hints: &mut [u8; 256], h: usize, place: Result<usize, usize>)
     requires { h < 256 }
     ensures { length hints.new ≡ length hints.old }
 {
     match place {
-        Place::Found(p) => note(hints, h, (p % 256) as u8),
-        Place::New(p) => {
+        Ok(p) => note(hints, h, (p % 256) as u8),
+        Err(p) => {
             shift(hints, (p % 256) as u8);
             note(hints, h, (p % 256) as u8);
         }
@@ -149,7 +121,7 @@ fn hinted_place<'a>(
     parts: &[usize],
     hints: &mut [u8; 256],
     v: usize,
-) -> Place
+) -> Result<usize, usize>
     requires { Ascending (texts_of facts.now query.now parts.now) }
     ensures value { enter facts.now query.now v parts.now ≡ entered_at v parts.now result }
     ensures within { PlaceWithin (length parts.now) result }
@@ -158,7 +130,7 @@ fn hinted_place<'a>(
     let h = mark(t);
     let k = proposed(facts, query, parts, hints, h, t);
     if k < parts.len() {
-        return Place::Found(k);
+        return Ok(k);
     }
     let place = find_place(facts, query, parts, v);
     learn(hints, h, place);
@@ -173,7 +145,7 @@ pub fn enter_hinted<'a>(
     n: usize,
     hints: &mut [u8; 256],
     v: usize,
-) -> Entered
+) -> Option<usize>
     requires { (n ≤ length words.old) × Ascending (texts_of facts.now query.now (take n words.old)) }
     ensures value { result ≡ count_in (enter facts.now query.now v (take n words.old)) words.old }
     ensures words { words.new ≡ in_front (enter facts.now query.now v (take n words.old)) words.old }

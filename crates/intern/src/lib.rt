@@ -69,19 +69,15 @@ fn number<'a>(
 {
     let x = name(facts, query, relations, tokens, i);
     let k = relations.len();
-    let mut j: usize = 0;
-    while j < i {
-        if !may_be_first(k, ids, j) {
-            j += 1;
-            continue;
+    for j in 0..i {
+        if may_be_first(k, ids, j) {
+            let y = name(facts, query, relations, tokens, j);
+            if texts::same(x, y) {
+                return j;
+            }
         }
-        let y = name(facts, query, relations, tokens, j);
-        if texts::same(x, y) {
-            return j;
-        }
-        j += 1;
     }
-    j
+    i
 }
 
 // The numbers of the tokens' names.
@@ -96,10 +92,7 @@ pub fn intern<'a>(
     ensures { Numbered (name_of facts.now query.now relations.now tokens.now) (length relations.now) ids.new (length tokens.now) }
 {
     let k = relations.len();
-    let mut t: usize = 0;
-    while t < tokens.len() {
-        let n = number(facts, query, relations, tokens, ids, k + t);
-        ids[t] = n as u64;
-        t += 1;
+    for t in 0..tokens.len() {
+        ids[t] = number(facts, query, relations, tokens, ids, k + t) as u64;
     }
 }

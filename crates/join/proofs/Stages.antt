@@ -14,7 +14,7 @@ use Rattle.definition.proofs.JoinReading.{facts_own}
 use Rattle.parts.specs.Entries.{texts_of}
 use Rattle.parts.proofs.HeldLaws.{held_take, held_length, enter_all_ascending}
 use Rattle.facts.specs.declared.Counts.{Counts}
-use Rattle.facts.specs.declared.FactsRead.TheVariants.{Given, Refused}
+use Rattle.std.specs.declared.result.Result.TheVariants.{Ok, Err}
 use Rattle.facts.specs.Words.{noted, entered, relations_of}
 use Rattle.facts.specs.Pass.{limits_of, facts_of}
 use Rattle.facts.specs.Reading.{all_facts, more_elements, Meets, MeetsAfter}
@@ -24,7 +24,7 @@ use Rattle.join.specs.United.{one, union, FirstRead, United}
 
 module _ (first second : Text) where
   -- after the first text
-  pub first_read : (rs rs' us us' : List ℕ) (c : Counts) → length rs ≡ 16 → length us ≡ 64 → Meets first second rs rs' us us' (Given c) → FirstRead first second rs' us' c
+  pub first_read : (rs rs' us us' : List ℕ) (c : Counts) → length rs ≡ 16 → length us ≡ 64 → Meets first second rs rs' us us' (Ok c) → FirstRead first second rs' us' c
   first_read rs rs' us us' c r u m =
       record {
         read = ap₂ (λ (i j : ℕ). read_facts (limits_of i j) first) (sym r) (sym u) ∙ m.0;
@@ -76,10 +76,10 @@ module _ (first second : Text) where
 
     -- after the second text
     module _ (rs' us' : List ℕ) where
-      pub second_fails : (q : Refusal) → MeetsAfter second first c rs₁ rs' us₁ us' (Refused q) → read_second document_01 (of_first (one first second)) second ≡ refusal q
+      pub second_fails : (q : Refusal) → MeetsAfter second first c rs₁ rs' us₁ us' (Err q) → read_second document_01 (of_first (one first second)) second ≡ refusal q
       second_fails q m = after_first ∙ m (all_facts first)
 
-      module _ (d : Counts) (m : MeetsAfter second first c rs₁ rs' us₁ us' (Given d)) where
+      module _ (d : Counts) (m : MeetsAfter second first c rs₁ rs' us₁ us' (Ok d)) where
         pub relations_there : d.relations ≤ length rs'
         relations_there = omega (arith, m.1.room, held_length m.1)
 

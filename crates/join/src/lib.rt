@@ -13,8 +13,8 @@ ghost use Rattle.facts.specs.Reading.{all_facts};
 ghost use Rattle.join.specs.United.{FirstRead, United, AreOf};
 
 use counting::enter_facts;
-use definition::Joined;
-use facts::{Counts, FactsRead, read_facts, read_second};
+use definition::RefusedJoin;
+use facts::{Counts, read_facts, read_second};
 use turning::turn;
 use unions::write_lines;
 
@@ -46,7 +46,7 @@ fn write_union<'a>(
     relations: &mut [usize],
     universe: &mut [usize],
     output: &mut [u8],
-) -> Joined
+) -> Result<usize, RefusedJoin>
     requires { United first.now second.now relations.old universe.old }
     ensures { JoinMeets document_01 first.now second.now output.old result output.new }
 {
@@ -63,15 +63,18 @@ fn join_second<'a>(
     universe: &mut [usize],
     c: Counts,
     output: &mut [u8],
-) -> Joined
+) -> Result<usize, RefusedJoin>
     requires { FirstRead first.now second.now relations.old universe.old c }
     ensures { JoinMeets document_01 first.now second.now output.old result output.new }
 {
     turn(relations);
     turn(universe);
     match read_second(second, first, relations, universe, c) {
-        FactsRead::Refused(q) => Joined::Refused(q, 2),
-        FactsRead::Given(d) => {
+        Err(q) => Err(RefusedJoin {
+            refusal: q,
+            text: 2,
+        }),
+        Ok(d) => {
             let n = d.relations;
             let m = d.elements;
             write_union(
@@ -86,13 +89,16 @@ fn join_second<'a>(
 }
 
 // Joins two fact texts: "Refusals of the first text come before those of the second".
-pub fn join<'a>(first: &'a [u8], second: &'a [u8], output: &mut [u8]) -> Joined
+pub fn join<'a>(first: &'a [u8], second: &'a [u8], output: &mut [u8]) -> Result<usize, RefusedJoin>
     ensures { JoinMeets document_01 first.now second.now output.old result output.new }
 {
     let mut relations = [0usize; 16];
     let mut universe = [0usize; 64];
     match read_facts(first, second, &mut relations, &mut universe) {
-        FactsRead::Refused(q) => Joined::Refused(q, 1),
-        FactsRead::Given(c) => join_second(first, second, &mut relations, &mut universe, c, output),
+        Err(q) => Err(RefusedJoin {
+            refusal: q,
+            text: 1,
+        }),
+        Ok(c) => join_second(first, second, &mut relations, &mut universe, c, output),
     }
 }

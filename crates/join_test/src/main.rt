@@ -4,7 +4,7 @@
 
 ghost use Rattle.std.specs.Prelude.{◌≤◌, ◌+◌, length};
 
-use definition::Joined;
+use definition::RefusedJoin;
 use join::join;
 use lines::{put, put_decimal, put_text};
 use listing::untouched;
@@ -19,15 +19,15 @@ fn write_line(rt: &impl Print, line: &mut [u8], n: usize) -> io::Result<()> {
 }
 
 // Puts the length, or the refusal and its text.
-fn put_answer(line: &mut [u8], j: Joined) -> usize
+fn put_answer(line: &mut [u8], j: Result<usize, RefusedJoin>) -> usize
     ensures { result ≤ length line.new + 1 }
 {
     match j {
-        Joined::Length(n) => put_decimal(line, 0, n as u64, true),
-        Joined::Refused(q, text) => {
-            let a = put_refusal(line, q);
+        Ok(n) => put_decimal(line, 0, n as u64, true),
+        Err(q) => {
+            let a = put_refusal(line, q.refusal);
             let b = put(line, a, 32, true);
-            put_decimal(line, b, text as u64, true)
+            put_decimal(line, b, q.text as u64, true)
         }
     }
 }

@@ -3,19 +3,15 @@ use Prim.Native.Nat.{ℕ, ◌+◌, ◌/◌, ◌%◌, ◌<◌, ◌≤◌}
 use mathlib.Core.Path.{◌≡◌, refl, sym, ◌∙◌}
 use mathlib.Core.Bool.{Bool, true, false, cond}
 use mathlib.Core.List.{List}
-use native.Mathlib.Omega.{arith}
 use native.Mathlib.Numerals.{add-one}
 use borrow.Author.Tests.{lt-ltb, le-ltb, ltb-false}
 use lib.Dec.{eqb, ltb}
 use lib.ListN.{length, get_or, set, drop, drop_of_length-le}
 use lib.Seq.{drop-cons}
-use Rattle.definition.specs.declared.Refusal.{Refusal}
 use Rattle.words.specs.Fields.{RELATION_NAME, ATTRIBUTE, TERM, WORD, BIND, RANGE}
 use Rattle.kinds.specs.declared.Rule.{Rule}
 use Rattle.kinds.specs.declared.Rule.TheVariants.{Keep, Fresh, Kind, Arity}
-use Rattle.kinds.specs.declared.Named.{Named}
-use Rattle.kinds.specs.declared.Named.TheVariants.{Done, Refused}
-use Rattle.kinds.specs.Walk.{rule_of, relation_code, relation_word, State, state, Walked, went, stopped, apply, use_at, step, walk, after, meets}
+use Rattle.kinds.specs.Walk.{rule_of, relation_code, relation_word, State, state, Walked, went, stopped, apply, use_at, step, walk, after}
 
 -- a new relation has at most 3 terms
 Small : Rule → Type 0
@@ -82,10 +78,9 @@ module _ (tokens ids words known relations : List ℕ) (count i : ℕ) (o : Walk
   turned : o ≡ after (step tokens ids (state known relations count) (get_or words i 0)) (walk tokens ids (drop (i + 1) words))
   turned = inv ∙ walk_at tokens ids words (state known relations count) i h
 
-  pub walk_stops : (known' relations' : List ℕ) (a : Named) (q : Refusal) → meets (step tokens ids (state known relations count) (get_or words i 0)) known' relations' a → a ≡ Refused q → meets o known' relations' a
-  walk_stops known' relations' (Refused r) q m e = turned ∙ rw m refl
-  walk_stops known' relations' (Done c) q m e = let z : ◌≡◌ {A = ℕ} 0 1 = cc in absurd (omega arith)
+  pub walk_stops : (r p : ℕ) → step tokens ids (state known relations count) (get_or words i 0) ≡ stopped r p → o ≡ stopped r p
+  walk_stops r p e = turned ∙ rw e refl
 
-  pub walk_goes : (known' relations' : List ℕ) (a : Named) (c : ℕ) → meets (step tokens ids (state known relations count) (get_or words i 0)) known' relations' a → a ≡ Done c
-      → (c ≤ 16) × (o ≡ walk tokens ids (drop (i + 1) words) (state known' relations' c))
-  walk_goes known' relations' a c m e = let n = rw e at m in (n.1, turned ∙ rw n.0 refl)
+  pub walk_goes : (known' relations' : List ℕ) (c : ℕ) → step tokens ids (state known relations count) (get_or words i 0) ≡ went (state known' relations' c)
+      → o ≡ walk tokens ids (drop (i + 1) words) (state known' relations' c)
+  walk_goes known' relations' c e = turned ∙ rw e refl

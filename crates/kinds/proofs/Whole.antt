@@ -14,6 +14,7 @@ use Rattle.definition.specs.Text.{Text, same}
 use Rattle.definition.specs.Limits.{document_01}
 use Rattle.definition.specs.Token.{Token}
 use Rattle.definition.specs.Syntax.{Program}
+use Rattle.definition.specs.declared.Refusal.{Refusal}
 use Rattle.definition.specs.Answer.{Answer, ok, refused, number, place}
 use Rattle.definition.specs.Names.{nothing, relation, Kinds, in_program, use_names, numbered, fact_kinds}
 use Rattle.words.specs.Shown.{Shows}
@@ -22,8 +23,7 @@ use Rattle.facts.specs.Words.{relation_of}
 use Rattle.intern.specs.Entries.{text_at, Stand}
 use Rattle.intern.specs.Numbers.{name_of, seek, number_of, Numbered}
 use Rattle.intern.proofs.Numbering.{of_relation, of_token, faithful, number_le}
-use Rattle.kinds.specs.declared.Named.{Named}
-use Rattle.kinds.specs.declared.Named.TheVariants.{Done, Refused}
+use Rattle.std.specs.Prelude.{Result, Ok, Err}
 use Rattle.kinds.specs.Walk.{known_of, relation_code, State, state, Walked, went, stopped, walk, meets}
 use Rattle.kinds.specs.Resolved.{Parsed, Stands, Resolved, done, refuses, fact_code, FactsKnown}
 use Rattle.kinds.proofs.Meaning.{Rep, Sim, walk_uses, known_relation}
@@ -124,18 +124,18 @@ module _ (facts query : Text) (tokens ids relations : List ℕ) (given L : ℕ) 
     nothing_both : {A : Type 0} (s : State) (r p : ℕ) → went s ≡ stopped r p → A
     nothing_both s r p e = let z : ◌≡◌ {A = ℕ} 0 1 = cc in absurd (omega arith)
 
-    conclude : (o : Walked) (a : Answer Kinds) (r : Named) (known relations' : List ℕ) → Sim facts query tokens ids ts stand L tell_apart inside o a → meets o known relations' r → Resolved facts query tokens ids known relations' r a
-    conclude (went s) (ok k) (Done c) known relations' m e = let q : s ≡ state known relations' c = (let f = e.0 in cc) in done (stands s known relations' c k q m)
-    conclude (went s) (ok k) (Refused q) known relations' m e = nothing_both s (number q) (place q) e
+    conclude : (o : Walked) (a : Answer Kinds) (r : Result ℕ Refusal) (known relations' : List ℕ) → Sim facts query tokens ids ts stand L tell_apart inside o a → meets o known relations' r → Resolved facts query tokens ids known relations' r a
+    conclude (went s) (ok k) (Ok c) known relations' m e = let q : s ≡ state known relations' c = (let f = e.0 in cc) in done (stands s known relations' c k q m)
+    conclude (went s) (ok k) (Err q) known relations' m e = nothing_both s (number q) (place q) e
     conclude (went s) (refused r p) n known relations' m e = absurd m
     conclude (stopped r p) (ok k) n known relations' m e = absurd m
-    conclude (stopped r p) (refused r' p') (Done c) known relations' m e = nothing_both (state known relations' c) r p (sym e.0)
-    conclude (stopped r p) (refused r' p') (Refused q) known relations' m e =
+    conclude (stopped r p) (refused r' p') (Ok c) known relations' m e = nothing_both (state known relations' c) r p (sym e.0)
+    conclude (stopped r p) (refused r' p') (Err q) known relations' m e =
         let a : r' ≡ number q = (let x = m.0 in cc) in
         let b : p' ≡ place q = (let x = m.1 in cc) in
         rw (a, b) refuses
 
-  pub resolved : (words known known' relations' : List ℕ) (r : Named) → length known ≡ L → FactsKnown fs known (length known) → meets (walk tokens ids words (state known relations given)) known' relations' r →
+  pub resolved : (words known known' relations' : List ℕ) (r : Result ℕ Refusal) → length known ≡ L → FactsKnown fs known (length known) → meets (walk tokens ids words (state known relations given)) known' relations' r →
       (ts : List Token) (p : Program) → Parsed query tokens words ts p → Resolved facts query tokens ids known' relations' r (use_names document_01 (in_program p) (fact_kinds (map (relation_of facts query) fs)))
   resolved words known known' relations' r l k m ts p parsed =
       let shows : Shows ts words (in_program p) = rw parsed.flat (program_uses ts parsed.few p 0 (omega (arith, parsed.small)) parsed.own) in

@@ -1,5 +1,5 @@
 -- What the pass over names answers, in terms of the definition.
-use Rattle.std.specs.Prelude.{ℕ, ◌%◌, ◌<◌, ◌≤◌, ◌≡◌, cond, List, map, eqb, ltb, get_or, length, take}
+use Rattle.std.specs.Prelude.{ℕ, ◌%◌, ◌<◌, ◌≤◌, ◌≡◌, cond, List, map, eqb, ltb, get_or, length, take, Result, Ok, Err}
 use Rattle.definition.specs.Text.{Text, same}
 use Rattle.definition.specs.Token.{Token}
 use Rattle.definition.specs.Syntax.{Program}
@@ -11,8 +11,6 @@ use Rattle.words.specs.Tokens.{OwnProgram}
 use Rattle.facts.specs.Words.{relation_of}
 use Rattle.intern.specs.Entries.{text_at, Stand}
 use Rattle.kinds.specs.Walk.{known_of, relation_code}
-use Rattle.kinds.specs.declared.Named.{Named}
-use Rattle.kinds.specs.declared.Named.TheVariants.{Done, Refused}
 
 -- a program as the parser leaves it: the tokens it was read from, and its words
 pub record Parsed (query : Text) (tokens words : List ℕ) (ts : List Token) (p : Program) : Type 0 where
@@ -31,9 +29,9 @@ pub record Stands (facts query : Text) (tokens ids known relations : List ℕ) (
   pub few : count ≤ 16
 
 -- the code's answer is the definition's
-pub data Resolved (facts query : Text) (tokens ids known relations : List ℕ) : Named → Answer Kinds → Type 0 where
-  done : {c : ℕ} {k : Kinds} → Stands facts query tokens ids known relations c k → Resolved facts query tokens ids known relations (Done c) (ok k)
-  refuses : {q : Refusal} → Resolved facts query tokens ids known relations (Refused q) (refused (number q) (place q))
+pub data Resolved (facts query : Text) (tokens ids known relations : List ℕ) : Result ℕ Refusal → Answer Kinds → Type 0 where
+  done : {c : ℕ} {k : Kinds} → Stands facts query tokens ids known relations c k → Resolved facts query tokens ids known relations (Ok c) (ok k)
+  refuses : {q : Refusal} → Resolved facts query tokens ids known relations (Err q) (refused (number q) (place q))
 
 -- what is known by number before the walk: the relations of the facts come first
 unfoldable pub fact_code : List ℕ → ℕ → ℕ

@@ -1,12 +1,11 @@
 -- Rows 11, 5 and 6 in one walk over the words of a program, by the numbers of names.
-use Rattle.std.specs.Prelude.{ℕ, ◌+◌, ◌*◌, ◌-◌, ◌/◌, ◌%◌, ◌≤◌, ◌≡◌, cond, List, [], ◌∷◌, eqb, ltb, get_or, set}
+use Rattle.std.specs.Prelude.{ℕ, ◌+◌, ◌*◌, ◌-◌, ◌/◌, ◌%◌, ◌≤◌, ◌≡◌, cond, List, [], ◌∷◌, eqb, ltb, get_or, set, Result, Ok, Err}
 use Rattle.definition.specs.Names.{Known, nothing, attribute, variable, open_variable, relation}
+use Rattle.definition.specs.declared.Refusal.{Refusal}
 use Rattle.definition.specs.Answer.{number, place}
 use Rattle.words.specs.Fields.{kind_of, p_of, q_of, RELATION_NAME, ATTRIBUTE, TERM, WORD, BIND, RANGE, NEXT}
 use Rattle.kinds.specs.declared.Rule.{Rule}
 use Rattle.kinds.specs.declared.Rule.TheVariants.{Keep, Fresh, Kind, Arity}
-use Rattle.kinds.specs.declared.Named.{Named}
-use Rattle.kinds.specs.declared.Named.TheVariants.{Done, Refused}
 
 -- what a number says of a name: 0 nothing, 1 an attribute, 2 a loop variable, 3 one whose block is open, else a relation
 unfoldable pub known_of : ℕ → Known
@@ -86,6 +85,6 @@ walk tokens ids [] s = went s
 walk tokens ids (w ∷ ws) s = after (step tokens ids s w) (walk tokens ids ws)
 
 -- the answer of the code, with the two arrays it left
-abbrev pub meets : Walked → List ℕ → List ℕ → Named → Type 0
-meets o k r (Done c) = (o ≡ went (state k r c)) × (c ≤ 16)
-meets o k r (Refused q) = o ≡ stopped (number q) (place q)
+abbrev pub meets : Walked → List ℕ → List ℕ → Result ℕ Refusal → Type 0
+meets o k r (Ok c) = (o ≡ went (state k r c)) × (c ≤ 16)
+meets o k r (Err q) = o ≡ stopped (number q) (place q)

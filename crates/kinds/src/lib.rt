@@ -22,13 +22,6 @@ pub enum Rule {
     Arity,
 }
 
-// The number of relations, or why the program is refused.
-#[derive(Clone, Copy)]
-pub enum Named {
-    Done(usize),
-    Refused(Refusal),
-}
-
 fn put_relation(s: &mut [usize], i: usize, v: usize)
     ensures { s.new ≡ set s.old i v }
 {
@@ -119,7 +112,7 @@ fn judge(k: u64, role: u64, n: u64) -> Rule
     turn_rule(k, 3, 2)
 }
 
-// One use of a name, at token t.
+// One use of a name, at token t: the number of relations then.
 fn use_at(
     tokens: &[u64],
     ids: &[u64],
@@ -129,7 +122,7 @@ fn use_at(
     role: u64,
     t: usize,
     n: u64,
-) -> Named
+) -> Result<usize, Refusal>
     requires { count ≤ 16 }
     ensures { meets (use_at tokens.now ids.now (state known.old relations.old count) role t n) known.new relations.new result }
 {
@@ -141,11 +134,11 @@ fn use_at(
     match a {
         Rule::Keep(v) => {
             put_at(known, j, v);
-            Named::Done(count)
+            Ok(count)
         }
         Rule::Fresh(m) => {
             if 16 <= count {
-                return Named::Refused(Refusal::TooManyRelations(at));
+                return Err(Refusal::TooManyRelations(at));
             }
             put_at(known, j, 4 + (count as u64) * 4 + m);
             put_relation(
@@ -153,10 +146,10 @@ fn use_at(
                 count,
                 at * 512 + (w / 64 % 64) as usize * 8 + 4 + m as usize,
             );
-            Named::Done(count + 1)
+            Ok(count + 1)
         }
-        Rule::Kind => Named::Refused(Refusal::Kind(at)),
-        Rule::Arity => Named::Refused(Refusal::Arity(at)),
+        Rule::Kind => Err(Refusal::Kind(at)),
+        Rule::Arity => Err(Refusal::Arity(at)),
     }
 }
 
@@ -168,16 +161,16 @@ fn use_word(
     relations: &mut [usize],
     count: usize,
     w: u64,
-) -> Named
+) -> Result<usize, Refusal>
     requires { count ≤ 16 }
     ensures { meets (step tokens.now ids.now (state known.old relations.old count) w) known.new relations.new result }
 {
     let kind = w % 256;
     if kind == 0 {
-        return Named::Done(count);
+        return Ok(count);
     }
     if 7 < kind {
-        return Named::Done(count);
+        return Ok(count);
     }
     use_at(
         tokens,
@@ -199,21 +192,15 @@ fn use_all(
     known: &mut [u64],
     relations: &mut [usize],
     given: usize,
-) -> Named
+) -> Result<usize, Refusal>
     requires { given ≤ 16 }
     ensures { meets (walk tokens.now ids.now words.now (state known.old relations.old given)) known.new relations.new result }
 {
     let mut count = given;
-    let mut i: usize = 0;
-    while i < words.len() {
-        let a = use_word(tokens, ids, known, relations, count, words[i]);
-        let Named::Done(c) = a else {
-            return a;
-        };
-        count = c;
-        i += 1;
+    for &w in words {
+        count = use_word(tokens, ids, known, relations, count, w)?;
     }
-    Named::Done(count)
+    Ok(count)
 }
 
 // What is known before the walk of the name with the number i: "facts come first".
@@ -229,14 +216,12 @@ fn fact_code(relations: &[usize], i: usize) -> u64
 fn know_facts(relations: &[usize], known: &mut [u64])
     ensures { FactsKnown relations.now known.new (length known.new) }
 {
-    let mut i: usize = 0;
-    while i < known.len() {
-        known[i] = fact_code(relations, i);
-        i += 1;
+    for (i, k) in known.iter_mut().enumerate() {
+        *k = fact_code(relations, i);
     }
 }
 
-// The kinds of the names of a program, over the facts' relations, which are given first; "11, 5, 6 by token".
+// The kinds of the names of a program, over the facts' relations, which are given first, and how many relations there are; "11, 5, 6 by token".
 pub fn resolve<'a>(
     facts: &'a [u8],
     query: &'a [u8],
@@ -246,7 +231,7 @@ pub fn resolve<'a>(
     known: &mut [u64],
     relations: &mut [usize],
     given: usize,
-) -> Named
+) -> Result<usize, Refusal>
     requires given_bound { (given ≤ 16) × (length relations.old ≡ 16) }
     requires tokens_in_bounds { (length tokens.now ≤ length ids.old) × (given + length tokens.now ≤ length known.old) }
     ensures kinds { (ts : List Token) (p : Program) → Parsed query.now tokens.now words.now ts p → Resolved facts.now query.now tokens.now ids.new known.new relations.new result (use_names document_01 (in_program p) (fact_kinds (map (relation_of facts.now query.now) (take given relations.old)))) }

@@ -78,25 +78,24 @@ closing_next u f old firsts next c h v l =
     go j k (yes g) = get_or-set_other firsts (16 + c) (16 + j) next 0 (λ e. omega arith) ∙ h.at j g
     go j k (no g) = let e : j ≡ c = omega arith in rw e (get_or-set_same firsts (16 + c) next 0 l ∙ h.next_is)
 
--- the largest of the tables from the place i on
+-- the largest of the first i tables
 pub record Seeking (u : ℕ) (rs : List ℕ) (most i : ℕ) : Type 0 where
-  pub is : most ≡ most_words u (drop i rs)
+  pub is : max most (most_words u (drop i rs)) ≡ most_words u rs
   pub small : most ≤ 262144
 
-pub seeking_start : (u : ℕ) (rs : List ℕ) → Seeking u rs 0 (length rs)
-unfolding most_words
-seeking_start u rs = record { is = sym (ap (most_words u) (drop_of_length-le rs {i = length rs} (omega arith))); small = omega arith }
+pub seeking_start : (u : ℕ) (rs : List ℕ) → Seeking u rs 0 0
+seeking_start u rs = record { is = omega arith; small = omega arith }
 
-module _ (u : ℕ) (rs : List ℕ) (most i : ℕ) (h : Seeking u rs most i) (j : ℕ) (e : i ≡ j + 1) (l : j < length rs) where
-  one_more : most_words u (drop j rs) ≡ max (table_words u (tag_of (get_or rs j 0))) most
+module _ (u : ℕ) (rs : List ℕ) (most i : ℕ) (h : Seeking u rs most i) where
+  pub seeking_next : i < length rs → u ≤ 64 → Seeking u rs (max most (table_words u (tag_of (get_or rs i 0)))) (i + 1)
   unfolding most_words
-  one_more = ap (most_words u) (drop-cons rs j 0 l) ∙ ap (λ (k : ℕ). max (table_words u (tag_of (get_or rs j 0))) k) (sym (h.is ∙ ap (λ (k : ℕ). most_words u (drop k rs)) (e ∙ add-one j)))
+  seeking_next l v =
+      let e : most_words u (drop i rs) ≡ max (table_words u (tag_of (get_or rs i 0))) (most_words u (drop (i + 1) rs)) = ap (most_words u) (drop-cons rs i 0 l) ∙ ap (λ (k : ℕ). max (table_words u (tag_of (get_or rs i 0))) (most_words u (drop k rs))) (sym (add-one i)) in
+      record { is = omega (arith, h.is, e); small = omega (arith, h.small, few_words u (get_or rs i 0) v) }
 
-  pub seeking_more : most < table_words u (tag_of (get_or rs j 0)) → u ≤ 64 → Seeking u rs (table_words u (tag_of (get_or rs j 0))) j
-  seeking_more m v = record { is = omega (arith, one_more); small = few_words u (get_or rs j 0) v }
-
-  pub seeking_same : table_words u (tag_of (get_or rs j 0)) ≤ most → Seeking u rs most j
-  seeking_same m = record { is = omega (arith, one_more); small = h.small }
+  pub seeking_end : length rs ≤ i → most ≡ most_words u rs
+  unfolding most_words
+  seeking_end l = let e : most_words u (drop i rs) ≡ 0 = ap (most_words u) (drop_of_length-le rs {i = i} l) in omega (arith, h.is, e)
 
 -- the definition's counts
 module _ (facts query : Text) (u : ℕ) where

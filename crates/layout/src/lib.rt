@@ -23,11 +23,9 @@ fn lay_tables(relations: &[usize], u: u8, firsts: &mut [u64]) -> usize
     ensures small { result ≤ 4194304 }
 {
     let mut next: usize = 0;
-    let mut i: usize = 0;
-    while i < relations.len() {
+    for (i, w) in relations.iter().enumerate() {
         firsts[i] = next as u64;
-        next += table_words(u, relations[i] % 4);
-        i += 1;
+        next += table_words(u, *w % 4);
     }
     next
 }
@@ -41,11 +39,9 @@ fn lay_closures(from: usize, u: u8, firsts: &mut [u64]) -> usize
     ensures before { (i : ℕ) → i < 16 → get_or firsts.new i 0 ≡ get_or firsts.old i 0 }
 {
     let mut next = from;
-    let mut c: usize = 0;
-    while c < 16 {
+    for c in 0..16 {
         firsts[16 + c] = next as u64;
         next += u as usize;
-        c += 1;
     }
     next
 }
@@ -57,13 +53,8 @@ fn largest(relations: &[usize], u: u8) -> usize
     ensures small { result ≤ 262144 }
 {
     let mut most: usize = 0;
-    let mut i = relations.len();
-    while 0 < i {
-        i -= 1;
-        let n = table_words(u, relations[i] % 4);
-        if most < n {
-            most = n;
-        }
+    for w in relations {
+        most = most.max(table_words(u, *w % 4));
     }
     most
 }
@@ -123,12 +114,9 @@ pub fn records<'a>(
     };
     let mut rs = [none; 16];
     let mut next: usize = 0;
-    let mut i: usize = 0;
-    while i < relations.len() {
-        let w = relations[i];
-        rs[i] = record_of(facts, query, w, next, sizes[i]);
-        next += table_words(u, w % 4);
-        i += 1;
+    for (i, w) in relations.iter().enumerate() {
+        rs[i] = record_of(facts, query, *w, next, sizes[i]);
+        next += table_words(u, *w % 4);
     }
     rs
 }

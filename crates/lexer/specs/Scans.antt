@@ -1,10 +1,8 @@
 -- What the loop over a query has found.
-use Rattle.std.specs.Prelude.{◌≡◌, List, [], ◌∷◌, ℕ, ◌+◌, ◌≤◌, ◌<◌, length, get_or}
+use Rattle.std.specs.Prelude.{◌≡◌, List, [], ◌∷◌, ℕ, ◌+◌, ◌≤◌, ◌<◌, length, get_or, Result, Ok, Err}
 use Rattle.definition.specs.Text.{Text}
 use Rattle.definition.specs.Limits.{TOKENS}
 use Rattle.definition.specs.Token.{Token, token_at, Lexed, tokens, stopped, add, lex}
-use Rattle.lexer.specs.declared.Scan.{Scan}
-use Rattle.lexer.specs.declared.Scan.TheVariants.{Stopped, Read}
 use Rattle.lexer.specs.Tokens.{token_of, start_of, size_of}
 
 -- tokens, and then what follows
@@ -22,6 +20,6 @@ pub record Before (query : Text) (words : List ℕ) (count over : ℕ) (rest : L
   pub next : TOKENS < count → (token_at read TOKENS).at ≡ over
 
 -- after the loop
-abbrev pub Scanned : Text → List ℕ → Scan → Type 0
-Scanned query words (Stopped p) = lex query 0 0 0 ≡ stopped p
-Scanned query words (Read count over) = Before query words count over (tokens [])
+abbrev pub Scanned : Text → List ℕ → Result (ℕ × ℕ) ℕ → Type 0
+Scanned query words (Err p) = lex query 0 0 0 ≡ stopped p
+Scanned query words (Ok (count, over)) = Before query words count over (tokens [])

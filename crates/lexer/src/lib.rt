@@ -1,8 +1,8 @@
 // The tokens of a query text: one word a token, with its kind, the length of its text and its place.
 #![tactic(auto)]
 
-ghost use Rattle.std.specs.Prelude.{eqb, length, take, drop, get_or, set, cond, ◌||◌, [], ◌∷◌, ◌≡◌, ◌<◌, ◌≤◌, ◌+◌, ◌*◌, min};
-ghost use Rattle.definition.specs.Text.{Text, ascii, span, starts, is_letter, is_digit, is_part, is_blank, is_legal};
+ghost use Rattle.std.specs.Prelude.{eqb, length, take, drop, get_or, set, cond, ◌||◌, [], ◌∷◌, ◌≡◌, ◌<◌, ◌≤◌, ◌+◌, ◌*◌};
+ghost use Rattle.definition.specs.Text.{Text, ascii, span, starts, is_letter, is_digit, is_part, is_blank};
 ghost use Rattle.definition.specs.Token.{first_mark, marks, comment, quoted, word, numeral};
 ghost use Rattle.lexer.specs.Answers.{answer, count_of, query_tokens};
 ghost use Rattle.lexer.specs.Scans.{Scanned};
@@ -10,7 +10,7 @@ ghost use Rattle.lexer.specs.Segments.{piece_of, first_piece, Marked, Small};
 ghost use Rattle.lexer.specs.Tokens.{Inside, kind_of, size_of, at_of, start_of};
 
 use definition::Refusal;
-use texts::{Class, Word, is_letter, of_class, reserved_word, run_end, same, value};
+use texts::{Class, is_letter, of_class, reserved_word, run_end, same, value};
 
 // The kinds of tokens. Keys are the definition's; a reserved word's is FIRST_WORD and its index in the table of 26.
 pub const LPAREN: u64 = 0;
@@ -85,25 +85,11 @@ enum Segment {
     Neither,
 }
 
-// What the loop over the text found: the place where no token begins, or the number of tokens and the place of the 2,049th.
-#[derive(Clone, Copy)]
-enum Scan {
-    Stopped(usize),
-    Read(usize, usize),
-}
-
-// The lexer's answer: how many words hold tokens, or why the query is refused.
-#[derive(Clone, Copy)]
-pub enum Lexed {
-    Tokens(usize),
-    Refused(Refusal),
-}
-
 // The byte at i, and 0 past the end: no token holds it.
 fn byte_at(text: &[u8], i: usize) -> u8
     ensures { result ≡ get_or text.now i 0 }
 {
-    if i < text.len() { text[i] } else { 0 }
+    text.get(i).copied().unwrap_or(0)
 }
 
 // The mark of two bytes if its second byte is next, else the other segment.
@@ -120,10 +106,8 @@ fn longer(next: u8, second: u8, kind: u64, other: Segment) -> Segment
 fn both_ways(y: u8, z: u8, other: Segment) -> Segment
     ensures { result ≡ cond (eqb 45 y) (cond (eqb 62 z) (Segment.Lexeme 13 0 3) other) other }
 {
-    if y == b'-' {
-        if z == b'>' {
-            return Segment::Lexeme(IFF, 0, 3);
-        }
+    if y == b'-' && z == b'>' {
+        return Segment::Lexeme(IFF, 0, 3);
     }
     other
 }
@@ -167,16 +151,11 @@ fn mark_at(text: &[u8], at: usize) -> Segment
 }
 
 // Whether x and y close a comment.
+#[tactic(auto, unfolding(definition::specs::Text::starts))]
 fn closes(x: u8, y: u8) -> bool
     ensures { result ≡ starts (ascii "*/") (x ∷ y ∷ []) }
 {
-    if x != b'*' {
-        return false;
-    }
-    if y != b'/' {
-        return false;
-    }
-    true
+    x == b'*' && y == b'/'
 }
 
 // The comment that "/*" opens at the place at: "/*/" is open, and comments do not nest.
@@ -185,12 +164,10 @@ fn comment_at(text: &[u8], at: usize) -> Segment
     ensures value { piece_of (drop at text.now) result ≡ comment 2 (drop (at + 2) text.now) }
     ensures small { Small result }
 {
-    let mut i = at + 2;
-    while i + 1 < text.len() {
+    for i in at + 2..text.len() - 1 {
         if closes(text[i], text[i + 1]) {
             return Segment::Gap(i + 2 - at);
         }
-        i += 1;
     }
     Segment::Neither
 }
@@ -227,8 +204,8 @@ fn word_at(text: &[u8], at: usize) -> Segment
         return Segment::Lexeme(UNDERSCORE, 0, 1);
     }
     match reserved_word(&text[at..end]) {
-        Word::Reserved(k) => Segment::Lexeme(FIRST_WORD + k as u64, n, n),
-        Word::Identifier => Segment::Lexeme(NAME, n, n),
+        Some(k) => Segment::Lexeme(FIRST_WORD + k as u64, n, n),
+        None => Segment::Lexeme(NAME, n, n),
     }
 }
 
@@ -266,16 +243,11 @@ fn slash_at(text: &[u8], at: usize) -> Segment
 }
 
 // Whether x is one of the blanks 9, 10 and 32.
+#[tactic(auto, unfolding(definition::specs::Text::is_blank))]
 fn separates(x: u8) -> bool
     ensures { result ≡ (is_blank x || eqb x 10) }
 {
-    if x == 9 {
-        return true;
-    }
-    if x == 32 {
-        return true;
-    }
-    x == 10
+    x == 9 || x == 32 || x == 10
 }
 
 // What begins at the place at.
@@ -318,6 +290,7 @@ pub fn place(word: u64) -> usize
 }
 
 // Where its text begins: a string's past the opening quote.
+#[tactic(auto, unfolding(crate::specs::Tokens::quote_of))]
 pub fn text_start(word: u64) -> usize
     ensures { result ≡ start_of word }
 {
@@ -355,14 +328,11 @@ fn put(words: &mut [u64], i: usize, word: u64)
 fn overflow(count: usize, at: usize, known: usize) -> usize
     ensures { result ≡ cond (eqb count 2048) at known }
 {
-    if count == 2048 {
-        return at;
-    }
-    known
+    if count == 2048 { at } else { known }
 }
 
-// The tokens of a query of at most 16,384 bytes: how many, the words of the first 2,048, and the place of the next.
-fn scan_query(query: &[u8], words: &mut [u64]) -> Scan
+// The tokens of a query of at most 16,384 bytes: how many, the words of the first 2,048, and the place of the next; or the place where no token begins.
+fn scan_query(query: &[u8], words: &mut [u64]) -> Result<(usize, usize), usize>
     requires { (length query.now ≤ 16384) × (2048 ≤ length words.old) }
     ensures { Scanned query.now words.new result }
 {
@@ -381,41 +351,34 @@ fn scan_query(query: &[u8], words: &mut [u64]) -> Scan
                 at += n;
             }
             Segment::Neither => {
-                return Scan::Stopped(at);
+                return Err(at);
             }
         }
     }
-    Scan::Read(count, over)
-}
-
-// The smaller of two places.
-fn smaller(a: usize, b: usize) -> usize
-    ensures { result ≡ min a b }
-{
-    if a < b { a } else { b }
+    Ok((count, over))
 }
 
 // "At most 16,384 bytes and 2,048 tokens": a word for each token, or row 8, 9 or 13 with its place. Words past the answer's count, and all of
 // them on a refusal, may be anything.
-pub fn lex(query: &[u8], words: &mut [u64]) -> Lexed
+pub fn lex(query: &[u8], words: &mut [u64]) -> Result<usize, Refusal>
     requires { 2048 ≤ length words.old }
     ensures value { answer query.now words.new result ≡ query_tokens query.now }
     ensures within { (count_of result ≤ 2048) × Inside query.now (take (count_of result) words.new) }
 {
     if 16384 < query.len() {
-        return Lexed::Refused(Refusal::QueryTooLong);
+        return Err(Refusal::QueryTooLong);
     }
     let legal = run_end(query, 0, Class::Legal);
     match scan_query(query, words) {
-        Scan::Stopped(p) => Lexed::Refused(Refusal::NoToken(smaller(p, legal))),
-        Scan::Read(count, over) => {
+        Err(p) => Err(Refusal::NoToken(p.min(legal))),
+        Ok((count, over)) => {
             if legal < query.len() {
-                return Lexed::Refused(Refusal::NoToken(legal));
+                return Err(Refusal::NoToken(legal));
             }
             if 2048 < count {
-                return Lexed::Refused(Refusal::TooMuch(over));
+                return Err(Refusal::TooMuch(over));
             }
-            Lexed::Tokens(count)
+            Ok(count)
         }
     }
 }

@@ -2,7 +2,8 @@
 // text of each token, or the row and the place of the refusal.
 #![tactic(auto)]
 
-use lexer::{Lexed, lex};
+use definition::Refusal;
+use lexer::lex;
 use lines::{put, put_decimal};
 use listing::{Item, put_items};
 use page::put_refusal;
@@ -16,13 +17,13 @@ fn write_line(rt: &impl Print, line: &mut [u8], n: usize) -> io::Result<()> {
 }
 
 // Puts the number of tokens, and as many of them as there are words.
-fn put_tokens(line: &mut [u8], l: Lexed, words: &[u64]) -> usize {
+fn put_tokens(line: &mut [u8], l: Result<usize, Refusal>, words: &[u64]) -> usize {
     match l {
-        Lexed::Tokens(n) => {
+        Ok(n) => {
             let p = put_decimal(line, 0, n as u64, true);
             put_items(line, p, Item::Token, words, n)
         }
-        Lexed::Refused(q) => put_refusal(line, q),
+        Err(q) => put_refusal(line, q),
     }
 }
 

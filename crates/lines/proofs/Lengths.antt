@@ -1,11 +1,11 @@
 -- How long an element and a line can be.
 use Rattle.std.specs.Prelude.{if◌then◌else◌}
-use Prim.Native.Nat.{ℕ, ◌+◌, ◌*◌, ◌/◌, ◌%◌, ◌<◌, ◌≤◌, max}
-use mathlib.Core.Path.{◌≡◌, sym, ap, subst, ◌∙◌}
+use Prim.Native.Nat.{ℕ, ◌+◌, ◌*◌, ◌/◌, ◌%◌, ◌<◌, ◌≤◌}
+use mathlib.Core.Path.{◌≡◌, sym, ap, subst}
 use mathlib.Core.Bool.{Bool, true, false}
 use mathlib.Core.List.{List, [], ◌∷◌, ◌++◌}
 use mathlib.Core.Logic.{⊎_elim}
-use native.Mathlib.Nat.{le_trans, le-max_left, le-max_right, max-le, min-le_left, suc-mul}
+use native.Mathlib.Nat.{le_trans, min-le_left, suc-mul}
 use native.Mathlib.Omega.{arith}
 use borrow.Author.Tests.{eq-eqb, ne_eqb}
 use lib.Dec.{eqb}
@@ -50,18 +50,6 @@ module _ (T : Texts) where
 -- no element before place k is longer than m
 abbrev pub Most : List ℕ → ℕ → ℕ → Type 0
 Most ps k m = (a : ℕ) → a < k → shown_most (get_or ps a 0) ≤ m
-
-pub most_more : (ps : List ℕ) (k m w r : ℕ) → Most ps k m → m ≤ 65 → w ≡ shown_most (get_or ps k 0) → r ≡ max m w → (r ≤ 65) × Most ps (k + 1) r
-most_more ps k m w r h s e f = (
-  subst (λ (n : ℕ). n ≤ 65) (sym f) (max-le s (subst (λ (n : ℕ). n ≤ 65) (sym e) (most_small (get_or ps k 0)))),
-  λ a l. subst (λ (n : ℕ). shown_most (get_or ps a 0) ≤ n) (sym f) (⊎_elim (λ g. last a l g) (λ g. le_trans (h a g) (le-max_left m w)) (le_or_lt k a)),
-)
-  where
-    last : (a : ℕ) → a < k + 1 → k ≤ a → shown_most (get_or ps a 0) ≤ max m w
-    last a l g = subst (λ (n : ℕ). n ≤ max m w) (e ∙ ap (λ (i : ℕ). shown_most (get_or ps i 0)) same) (le-max_right m w)
-      where
-        same : k ≡ a
-        same = omega arith
 
 pub most_all : (ps : List ℕ) (k m : ℕ) → length ps ≤ k → Most ps k m → (f q : Text) (a : ℕ) → length (shown_at (texts f q ps) a) ≤ m
 most_all ps k m l h f q a = le_trans (shown_within (texts f q ps) a) (⊎_elim past (h a) (le_or_lt k a))

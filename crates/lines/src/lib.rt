@@ -1,7 +1,7 @@
 // Numbers and the line of a tuple put to a buffer, or only counted. A place past the buffer's end counts as the one just past it, so no count overflows.
 #![tactic(auto)]
 
-ghost use Rattle.std.specs.Prelude.{◌≡◌, [], ◌∷◌, ℕ, ◌+◌, ◌-◌, ◌≤◌, min, max, length, get_or, take, drop};
+ghost use Rattle.std.specs.Prelude.{◌≡◌, [], ◌∷◌, ℕ, ◌+◌, ◌-◌, ◌≤◌, length, get_or, take, drop};
 ghost use Rattle.std.proofs.lemmas.List.Edits.{sets};
 ghost use Rattle.definition.specs.Text.{Text, gather};
 ghost use Rattle.definition.specs.Decimals.{digits, decimal};
@@ -25,29 +25,14 @@ pub fn put(out: &mut [u8], at: usize, b: u8, write: bool) -> usize
     at + 1
 }
 
-// The smaller and the larger of two numbers.
-fn smaller(a: usize, b: usize) -> usize
-    ensures { result ≡ min a b }
-{
-    if a < b { a } else { b }
-}
-
-fn larger(a: usize, b: usize) -> usize
-    ensures { result ≡ max a b }
-{
-    if a < b { b } else { a }
-}
-
 // Writes a text from place `at` on, as far as there is room.
 fn copy(out: &mut [u8], at: usize, s: &[u8])
     requires { at ≤ length out.old + 1 }
     ensures { out.new ≡ sets out.old at s.now }
 {
-    let end = smaller(at + s.len(), out.len());
-    let mut p = at;
-    while p < end {
-        out[p] = s[p - at];
-        p += 1;
+    let end = (at + s.len()).min(out.len());
+    if at < end {
+        out[at..end].copy_from_slice(&s[..end - at]);
     }
 }
 
@@ -56,12 +41,10 @@ pub fn put_text(out: &mut [u8], at: usize, s: &[u8], write: bool) -> usize
     requires { at ≤ length out.old + 1 }
     ensures { Put write out.old at s.now result out.new }
 {
-    let end = smaller(at + s.len(), out.len() + 1);
     if write {
         copy(out, at, s);
-        return end;
     }
-    end
+    (at + s.len()).min(out.len() + 1)
 }
 
 // Puts a number of at most k digits.
@@ -90,7 +73,7 @@ pub fn put_decimal(out: &mut [u8], at: usize, n: u64, write: bool) -> usize
 fn place_at(places: &[usize], a: usize) -> usize
     ensures { result ≡ get_or places.now a 0 }
 {
-    if a < places.len() { places[a] } else { 0 }
+    places.get(a).copied().unwrap_or(0)
 }
 
 // The text of an element.
@@ -116,10 +99,8 @@ pub fn longest(places: &[usize]) -> usize
     ensures { (result ≤ 65) × ((f q : Text) (a : ℕ) → length (shown_at (texts f q places.now) a) ≤ result) }
 {
     let mut m: usize = 0;
-    let mut k: usize = 0;
-    while k < places.len() {
-        m = larger(m, shown_most(places[k]));
-        k += 1;
+    for w in places {
+        m = m.max(shown_most(*w));
     }
     m
 }
@@ -162,11 +143,9 @@ fn put_after<'a>(
     ensures { Put write out.old at (gather (after (texts facts.now query.now places.now)) (take (n - from) (drop from t))) result out.new }
 {
     let mut p = at;
-    let mut k = from;
-    while k < n {
+    for k in from..n {
         let q = put(out, p, 32, write);
         p = put_shown(facts, query, places, out, q, t[k], write);
-        k += 1;
     }
     p
 }

@@ -1,48 +1,19 @@
--- How many bytes of a buffer are 255, counted from its start.
-use Prim.Native.Nat.{ℕ, ◌+◌, ◌<◌, ◌≤◌}
-use mathlib.Core.Path.{◌≡◌, refl, ap, ◌∙◌}
+-- How many bytes of a buffer are 255, as the standard library counts them.
+use Prim.Native.Nat.{ℕ, ◌+◌}
+use mathlib.Core.Path.{◌≡◌, refl}
 use mathlib.Core.Bool.{Bool, true, false, cond}
-use mathlib.Core.List.{List, [], ◌∷◌}
-use native.Mathlib.Nat.{add-zero}
-use native.Mathlib.Numerals.{add-one}
-use borrow.Author.Tests.{eq-eqb, ne_eqb}
+use mathlib.Core.List.{List, ◌∷◌}
+use native.Mathlib.Omega.{arith}
 use lib.Dec.{eqb}
-use lib.ListN.{length, get_or, take, length-append}
-use lib.Seq.{take-suc, take_all}
+use lib.ListN.{length}
+use Rattle.std.specs.Prelude.{count_by}
+use Rattle.std.proofs.lemmas.List.Recursion.{is_count_by}
 use Rattle.definition.specs.Text.{keep}
-use Rattle.definition.proofs.TupleLaws.{keep_append}
 
--- those among the first i
-abbrev pub counted : List ℕ → ℕ → ℕ
-counted l i = length (keep (λ x. eqb x 255) (take i l))
-
-pub counted_zero : (l : List ℕ) → 0 ≡ counted l 0
+pub kept_counted : (xs : List ℕ) → length (keep (λ x. eqb x 255) xs) ≡ count_by (λ x. eqb x 255) xs
 unfolding keep
-counted_zero l = refl
-
-pub counted_all : (l : List ℕ) (i : ℕ) → length l ≤ i → counted l i ≡ length (keep (λ x. eqb x 255) l)
-counted_all l i k = ap (λ (xs : List ℕ). length (keep (λ x. eqb x 255) xs)) (take_all i l k)
-
-one : (x : ℕ) → length (keep (λ y. eqb y 255) (x ∷ [])) ≡ cond (eqb x 255) 1 0
-unfolding keep
-one x = go (eqb x 255)
+kept_counted xs = is_count_by (λ ys. length (keep (λ x. eqb x 255) ys)) (λ x. eqb x 255) refl (λ y ys. go (eqb y 255) y (keep (λ x. eqb x 255) ys)) xs
   where
-    go : (b : Bool) → length (cond b (x ∷ []) []) ≡ cond b 1 0
-    go true = refl
-    go false = refl
-
--- one more
-module _ (l : List ℕ) (i : ℕ) (h : i < length l) where
-  counted_suc : counted l (i + 1) ≡ counted l i + cond (eqb (get_or l i 0) 255) 1 0
-  counted_suc =
-      ap (counted l) (add-one i)
-      ∙ ap (λ (xs : List ℕ). length (keep (λ x. eqb x 255) xs)) (take-suc l i 0 h)
-      ∙ ap length (keep_append (λ x. eqb x 255) (take i l) (get_or l i 0 ∷ []))
-      ∙ length-append (keep (λ x. eqb x 255) (take i l)) (keep (λ x. eqb x 255) (get_or l i 0 ∷ []))
-      ∙ ap (λ (n : ℕ). counted l i + n) (one (get_or l i 0))
-
-  pub counted_one : get_or l i 0 ≡ 255 → counted l (i + 1) ≡ counted l i + 1
-  counted_one e = counted_suc ∙ ap (λ (b : Bool). counted l i + cond b 1 0) (eq-eqb (get_or l i 0) 255 e)
-
-  pub counted_other : (get_or l i 0 ≡ 255 → ⊥) → counted l (i + 1) ≡ counted l i
-  counted_other n = counted_suc ∙ ap (λ (b : Bool). counted l i + cond b 1 0) (ne_eqb (get_or l i 0) 255 n) ∙ add-zero (counted l i)
+    go : (b : Bool) (y : ℕ) (ys : List ℕ) → length (cond b (y ∷ ys) ys) ≡ cond b (1 + length ys) (length ys)
+    go true y ys = omega arith
+    go false y ys = refl

@@ -57,13 +57,8 @@ pub fn put_items(out: &mut [u8], at: usize, item: Item, words: &[u64], n: usize)
     ensures { Put true out.old at (gather (item_text item) (take n words.now)) result out.new }
 {
     let mut p = at;
-    let mut i: usize = 0;
-    while i < n {
-        if words.len() <= i {
-            return p;
-        }
-        p = put_item(out, p, item, words[i]);
-        i += 1;
+    for &w in &words[..n.min(words.len())] {
+        p = put_item(out, p, item, w);
     }
     p
 }
@@ -85,10 +80,8 @@ pub fn put_bytes(out: &mut [u8], at: usize, buffer: &[u8]) -> usize
     ensures { Put true out.old at (gather byte_text buffer.now) result out.new }
 {
     let mut p = at;
-    let mut i = 0;
-    while i < buffer.len() {
-        p = put_byte(out, p, buffer[i]);
-        i += 1;
+    for &x in buffer {
+        p = put_byte(out, p, x);
     }
     p
 }
@@ -97,13 +90,5 @@ pub fn put_bytes(out: &mut [u8], at: usize, buffer: &[u8]) -> usize
 pub fn untouched(buffer: &[u8]) -> usize
     ensures { result ≡ length (keep (λ x. eqb x 255) buffer.now) }
 {
-    let mut n: usize = 0;
-    let mut i = 0;
-    while i < buffer.len() {
-        if buffer[i] == 255 {
-            n += 1;
-        }
-        i += 1;
-    }
-    n
+    buffer.iter().filter(|x| **x == 255).count()
 }

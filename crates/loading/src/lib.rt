@@ -15,7 +15,7 @@ ghost use Rattle.facts.specs.Lines.{AllWithin};
 ghost use Rattle.facts.specs.Words.{fact_at};
 ghost use Rattle.loading.specs.Given.{element_number, tuple_at, Ready, Loaded, AllLoaded};
 
-use facts::{FactLine, Item, NextFact, next_fact, value_start};
+use facts::{FactLine, Item, next_fact, value_start};
 use hints::{hinted_position, hints_of};
 use parts::{index_of, packed, part};
 use scratch::clear;
@@ -123,16 +123,11 @@ fn load_words<'a>(
 {
     let hints = hints_of(facts, query, places);
     let mut at: usize = 0;
-    loop {
-        match next_fact(facts, at) {
-            NextFact::NoMore => return,
-            NextFact::Fact(a, f, next) => {
-                load_fact(
-                    facts, query, relations, places, firsts, u, &hints, a, f, words,
-                );
-                at = next;
-            }
-        }
+    while let Some((a, f, next)) = next_fact(facts, at) {
+        load_fact(
+            facts, query, relations, places, firsts, u, &hints, a, f, words,
+        );
+        at = next;
     }
 }
 

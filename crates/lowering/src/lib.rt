@@ -18,7 +18,7 @@ fn slot_of(d: u64) -> u64
     requires { d < 8 }
     ensures { (result ≡ slot_of d) × (result < 8) }
 {
-    if d == 0 { 0 } else { d - 1 }
+    d.saturating_sub(1)
 }
 
 // Four bytes, the first lowest.
@@ -41,16 +41,15 @@ fn slots_of(f: u64) -> u64
 }
 
 // v if d is among the digits of a or of b.
+#[tactic(auto, unfolding(crate::specs::Lowering::slot_bit))]
 fn slot_bit(a: u64, b: u64, d: u64, v: u64) -> u64
     ensures { (result ≡ slot_bit a b d v) × (result ≤ v) }
 {
-    if digits::has(a, d) {
-        return v;
+    if digits::has(a, d) || digits::has(b, d) {
+        v
+    } else {
+        0
     }
-    if digits::has(b, d) {
-        return v;
-    }
-    0
 }
 
 fn mask(a: u64, b: u64) -> u64
@@ -86,16 +85,15 @@ fn operands_at(words: &[u64], codes: &[u64], k: usize) -> u64
 }
 
 // Whether a term may stand for an element.
+#[tactic(auto, unfolding(crate::specs::Lowering::may_stand))]
 fn may_stand(codes: &[u64], u: u8, w: u64) -> bool
     ensures { result ≡ may_stand (at codes.now) u w }
 {
-    if w % 256 == 9 {
-        return 0 < u;
+    match w % 256 {
+        9 => 0 < u,
+        43 => word_at(codes, (w / 256 % 65536) as usize) != 255,
+        _ => true,
     }
-    if w % 256 == 43 {
-        return word_at(codes, (w / 256 % 65536) as usize) != 255;
-    }
-    true
 }
 
 // Whether each of n terms from place k on may.
@@ -103,12 +101,10 @@ fn all_stand(words: &[u64], codes: &[u64], u: u8, n: usize, k: usize) -> bool
     requires { (n < 65536) × (k < 65536) }
     ensures { result ≡ all_stand (at words.now) (at codes.now) u n k }
 {
-    let mut i: usize = 0;
-    while i < n {
+    for i in 0..n {
         if !may_stand(codes, u, word_at(words, k + i)) {
             return false;
         }
-        i += 1;
     }
     true
 }
@@ -137,18 +133,16 @@ fn label_place(p: u64, q: u64) -> u64
 }
 
 // The number p of an expression, an item or a statement.
+#[tactic(auto, unfolding(crate::specs::Lowering::node_p))]
 fn node_p(words: &[u64], codes: &[u64], w: u64) -> u64
     ensures { (result ≡ node_p (at words.now) (at codes.now) w) × (result < 65536) }
 {
     let p = w / 256 % 65536;
     let q = w / 16777216 % 65536;
     match w % 256 {
-        10 => word_at(codes, (word_at(words, p as usize) / 256 % 65536) as usize) % 65536,
-        33 => word_at(codes, (word_at(words, p as usize) / 256 % 65536) as usize) % 65536,
-        13 => q,
-        23 => q,
-        19 => term_byte(codes, word_at(words, p as usize)) % 8,
-        20 => term_byte(codes, word_at(words, p as usize)) % 8,
+        10 | 33 => word_at(codes, (word_at(words, p as usize) / 256 % 65536) as usize) % 65536,
+        13 | 23 => q,
+        19 | 20 => term_byte(codes, word_at(words, p as usize)) % 8,
         30 => label_place(p, q),
         _ => p,
     }
@@ -158,7 +152,7 @@ fn node_p(words: &[u64], codes: &[u64], w: u64) -> u64
 fn depth_of(c: u64) -> u64
     ensures { (result ≡ depth_of c) × (result < 65536) }
 {
-    if c < 72 { 0 } else { (c - 72) % 65536 }
+    c.saturating_sub(72) % 65536
 }
 
 // The number p of a word.
@@ -353,10 +347,8 @@ pub fn lower_part<'a>(
     ensures { Filled (lower_at (at words.now) (at codes.now) (at tokens.now) (at free.now) (token_values facts.now query.now places.now (at tokens.now)) u lo) lo hi low.old low.new }
 {
     let mut c: u64 = 0;
-    let mut k = lo;
-    while k < hi {
+    for k in lo..hi {
         low[k] = lower_word(facts, query, places, words, codes, tokens, free, u, c, k);
         c += slots::one_closure(word_at(words, k)) as u64;
-        k += 1;
     }
 }

@@ -22,12 +22,10 @@ fn seek(s: u64, from: u8, u: u8) -> u8
     requires { u < 65 }
     ensures { (result ≡ get_or (members s from (u - from)) 0 u) × (result ≤ u) }
 {
-    let mut a = from;
-    while a < u {
+    for a in from..u {
         if test_bit(s, a as u64) {
             return a;
         }
-        a += 1;
     }
     u
 }

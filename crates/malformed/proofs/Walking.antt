@@ -20,7 +20,8 @@ use Rattle.words.specs.Raw.{number, flat_program}
 use Rattle.words.specs.ShownPatterns.{first_half, ShowsPatterns, none, other, shown}
 use Rattle.words.specs.Tokens.{OwnString, OwnProgram}
 use Rattle.words.proofs.PatternOrder.{patterns_of_program}
-use Rattle.malformed.specs.declared.Formed.{Formed}
+use Rattle.std.specs.Prelude.{Result}
+use Rattle.definition.specs.declared.Refusal.{Refusal}
 use Rattle.malformed.specs.Walk.{meets, token_of, word_rows}
 
 -- a row or what follows it
@@ -54,7 +55,7 @@ module _ (query : Text) (tokens : List ℕ) where
         rw (e, text_is w n o, place_is w n o) (row_then (not (well_formed s.text)) s.at (walk_shown r))
 
   -- the answer of the walk is that of the program's patterns
-  pub walked : (words : List ℕ) (r : Formed) → meets r (walk words)
+  pub walked : (words : List ℕ) (r : Result (Unit {0}) Refusal) → meets r (walk words)
       → (ts : List Token) (p : Program) → Stand query tokens ts → length ts < 65536 → OwnProgram ts p → words ≡ flat_program p 0 → meets r (pattern_rows (program_patterns p))
   walked words r m ts p h few own e = subst (meets r) (ap walk e ∙ walk_shown h (patterns_of_program ts few p 0 own)) m
 

@@ -1,19 +1,18 @@
 -- Row 18 by the words of a program.
-use Rattle.std.specs.Prelude.{ℕ, ◌≡◌, not, cond, List, [], ◌∷◌, get_or}
+use Rattle.std.specs.Prelude.{ℕ, ◌≡◌, not, cond, List, [], ◌∷◌, get_or, Result, Ok, Err}
 use Rattle.definition.specs.Text.{Text}
+use Rattle.definition.specs.declared.Refusal.{Refusal}
 use Rattle.definition.specs.Answer.{Answer, ok, refused, refusal}
 use Rattle.definition.specs.Pattern.{well_formed}
 use Rattle.lexer.specs.Tokens.{at_of}
 use Rattle.intern.specs.Entries.{text_at}
 use Rattle.words.specs.Fields.{p_of}
 use Rattle.words.specs.ShownPatterns.{first_half}
-use Rattle.malformed.specs.declared.Formed.{Formed}
-use Rattle.malformed.specs.declared.Formed.TheVariants.{Fine, Refused}
 
 -- the code's answer is the definition's
-abbrev pub meets : Formed → Answer (Unit {0}) → Type 0
-meets Fine a = a ≡ ok tt
-meets (Refused q) a = a ≡ refusal q
+abbrev pub meets : Result (Unit {0}) Refusal → Answer (Unit {0}) → Type 0
+meets (Ok done) a = a ≡ ok done
+meets (Err q) a = a ≡ refusal q
 
 module _ (query : Text) (tokens : List ℕ) where
   -- the token of a pattern's word

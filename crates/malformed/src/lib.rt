@@ -17,12 +17,6 @@ use lexer::place;
 use patterns::read_pattern;
 use words::word_at;
 
-#[derive(Clone, Copy)]
-pub enum Formed {
-    Fine,
-    Refused(Refusal),
-}
-
 // Whether a word is the first of a pattern's two.
 fn first_half(w: u64) -> bool
     ensures { result ≡ first_half w }
@@ -41,19 +35,16 @@ fn is_malformed(query: &[u8], token: u64) -> bool
 }
 
 // "18 with the pattern's token, an empty or malformed pattern".
-pub fn pattern_rows(query: &[u8], tokens: &[u64], words: &[u64]) -> Formed
+pub fn pattern_rows(query: &[u8], tokens: &[u64], words: &[u64]) -> Result<(), Refusal>
     ensures { (ts : List Token) (p : Program) → Stand query.now tokens.now ts → length ts < 65536 → OwnProgram ts p → words.now ≡ flat_program p 0 → meets result (pattern_rows (program_patterns p)) }
 {
-    let mut k: usize = 0;
-    while k < words.len() {
-        let w = words[k];
-        k += 1;
+    for &w in words {
         if first_half(w) {
             let t = word_at(tokens, (w / 256 % 65536) as usize);
             if is_malformed(query, t) {
-                return Formed::Refused(Refusal::Pattern(place(t)));
+                return Err(Refusal::Pattern(place(t)));
             }
         }
     }
-    Formed::Fine
+    Ok(())
 }

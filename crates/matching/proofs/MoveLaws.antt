@@ -1,7 +1,7 @@
 -- Loops that fill a word, bit by bit.
 use mathlib.Core.Path.{◌≡◌, refl, sym, ap, ◌∙◌, subst, subst⁻¹}
 use mathlib.Core.Bool.{Bool, true, false, not, cond}
-use Prim.Native.Nat.{ℕ, suc, ◌+◌, ◌*◌, ◌^◌, ◌<◌}
+use Prim.Native.Nat.{ℕ, ◌+◌, ◌*◌, ◌^◌, ◌<◌}
 use native.Mathlib.Numerals.{add-one}
 use native.Mathlib.Omega.{arith}
 use native.Mathlib.Decide.{dec_lt}
@@ -53,12 +53,6 @@ unfolding moved
 moved_by e t c r a q = ap (λ w. bit_and a w * 2) q
 
 -- every position
-pub all_none : with_bit 0 0 ≡ word 1 0 (λ j. true)
-all_none = word_next (λ j. true) 0 0 (with_bit 0 0) true (omega arith) (word_none (λ j. true)) refl refl
-
-pub all_step : (f : ℕ → Bool) (i r : ℕ) (on : Bool) (q : ℕ) → i + 1 < 64 → r ≡ word (suc i) 0 f → on ≡ f (i + 1) → q ≡ cond on (with_bit r (i + 1)) r → q ≡ word (suc (i + 1)) 0 f
-all_step f i r on q h x y z = word_next f (i + 1) r q on h (x ∙ ap (λ k. word k 0 f) (sym (add-one i))) y z ∙ ap (λ k. word k 0 f) (add-one (i + 1))
-
-pub all_end : (e : Text) (i r : ℕ) → i ≡ length e → r ≡ word (suc i) 0 (λ j. true) → r ≡ all e
+pub all_end : (e : Text) (i r : ℕ) → i ≡ length e + 1 → r ≡ word i 0 (λ j. true) → r ≡ all e
 unfolding all
-all_end e i r q x = x ∙ ap (λ k. word (suc k) 0 (λ j. true)) q
+all_end e i r q x = x ∙ ap (λ k. word k 0 (λ j. true)) (q ∙ add-one (length e))

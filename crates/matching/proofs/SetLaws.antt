@@ -15,7 +15,7 @@ use Rattle.definition.specs.Text.{Text, ascii, some_of, starts, span}
 use Rattle.definition.specs.Pattern.{Pattern, Sort, branches, branch, piece, atom, Reading, read, wrong, on_read, start, end, one, choice, sequence, star, up_to, times, Range, range, just, no_byte, a_byte, listed, set_of, set_read, onto, no_class, is_character, read_set, read_repeat, read_close, read_ordinary, ends_branch, rule, phrase}
 use Rattle.definition.proofs.PatternSound.{Listed, nowhere, so, listed_lists}
 use Rattle.patterns.specs.Ends.{end_at, to_close_at}
-use Rattle.patterns.specs.declared.Next.TheVariants.{At, Wrong}
+use Rattle.std.specs.Prelude.{Some, None}
 use Rattle.patterns.proofs.ByteLaws.{eqb_true, eqb_false, starts_byte}
 use Rattle.patterns.proofs.EndLaws.{cons_at, by_true, by_false, set_cons, set_body, stays, uncut_at}
 use Rattle.patterns.proofs.PhraseLaws.{reached, unread, no_depth, piece_at, piece_other, same_atom, atom_group}
@@ -34,7 +34,7 @@ module _ {e : Text} {f : Pattern → Pattern} {a r : ℕ} where
   pub leads_as : (o u : Reading) → o ≡ u → Leads u e f a r → Leads o e f a r
   leads_as o u x l = record { ends = λ p ys y b. l.ends p ys (sym x ∙ y) b }
 
-  pub leads_unread : (s : Text) (n : ℕ) (k : Sort) (i : ℕ) → Wrong ≡ end_at s n k i → Leads (phrase n k (drop i s)) e f a r
+  pub leads_unread : (s : Text) (n : ℕ) (k : Sort) (i : ℕ) → None ≡ end_at s n k i → Leads (phrase n k (drop i s)) e f a r
   leads_unread s n k i w = leads_none (phrase n k (drop i s)) (unread s n k i w)
 
   pub leads_for : (o : Reading) (g : Pattern → Pattern) → ((p : Pattern) → g p ≡ f p) → Leads o e g a r → Leads o e f a r
@@ -47,7 +47,7 @@ leads_on (read q zs) x g y k = leads_at x (g q) zs y (k q zs refl)
 
 -- branches and pieces
 module _ (s : Text) (m i : ℕ) where
-  branches_alone : (j : ℕ) → At j ≡ end_at s m branch i → (get_or s j 0 ≡ 124 → ⊥) → phrase (suc m) branches (drop i s) ≡ phrase m branch (drop i s)
+  branches_alone : (j : ℕ) → Some j ≡ end_at s m branch i → (get_or s j 0 ≡ 124 → ⊥) → phrase (suc m) branches (drop i s) ≡ phrase m branch (drop i s)
   unfolding phrase rule
   branches_alone j w n = let r = reached s m branch i j w in rw r.reading (rw (starts_byte 124 s j refl ∙ eqb_false (get_or s j 0) 124 n))
 
@@ -57,7 +57,7 @@ module _ (s : Text) (m i : ℕ) where
   branches_either j p x n =
       rw x (rw (starts_byte 124 s j refl ∙ eqb_true (get_or s j 0) 124 n) (ap (λ t. on_read (phrase m branches t) (λ q zs. read (choice p q) zs)) (drop-drop 1 j s)))
 
-  branch_alone : (j : ℕ) → At j ≡ end_at s m piece i → ends_branch (drop j s) ≡ true → phrase (suc m) branch (drop i s) ≡ phrase m piece (drop i s)
+  branch_alone : (j : ℕ) → Some j ≡ end_at s m piece i → ends_branch (drop j s) ≡ true → phrase (suc m) branch (drop i s) ≡ phrase m piece (drop i s)
   unfolding phrase rule
   branch_alone j w n = let r = reached s m piece i j w in rw r.reading (rw n)
 
@@ -67,10 +67,10 @@ module _ (s : Text) (m i : ℕ) where
   branch_both j p x n = rw x (rw n)
 
   module _ {e : Text} {a x : ℕ} (j : ℕ) where
-    pub lead_branch : At j ≡ end_at s m branch i → (get_or s j 0 ≡ 124 → ⊥) → Leads (phrase m branch (drop i s)) e itself a x → Leads (phrase (suc m) branches (drop i s)) e itself a x
+    pub lead_branch : Some j ≡ end_at s m branch i → (get_or s j 0 ≡ 124 → ⊥) → Leads (phrase m branch (drop i s)) e itself a x → Leads (phrase (suc m) branches (drop i s)) e itself a x
     lead_branch w n l = leads_as (phrase (suc m) branches (drop i s)) (phrase m branch (drop i s)) (branches_alone j w n) l
 
-    pub lead_branches : (y : ℕ) → At j ≡ end_at s m branch i → get_or s j 0 ≡ 124 → Leads (phrase m branch (drop i s)) e itself a x → Leads (phrase m branches (drop (j + 1) s)) e itself a y
+    pub lead_branches : (y : ℕ) → Some j ≡ end_at s m branch i → get_or s j 0 ≡ 124 → Leads (phrase m branch (drop i s)) e itself a x → Leads (phrase m branches (drop (j + 1) s)) e itself a y
         → Leads (phrase (suc m) branches (drop i s)) e itself a (bit_or x y)
     lead_branches y w n l k =
         let r = reached s m branch i j w in
@@ -78,10 +78,10 @@ module _ (s : Text) (m i : ℕ) where
         leads_on (phrase m branches (drop (j + 1) s)) (phrase (suc m) branches (drop i s)) (choice p) (branches_either j p r.reading n)
         (λ q zs o b. ap (λ z. bit_or z y) (l.ends p (drop j s) r.reading b) ∙ ap (bit_or (ends_of e p a)) (k.ends q zs o b) ∙ sym (ends_choice e p q a))
 
-    pub lead_piece : At j ≡ end_at s m piece i → ends_branch (drop j s) ≡ true → Leads (phrase m piece (drop i s)) e itself a x → Leads (phrase (suc m) branch (drop i s)) e itself a x
+    pub lead_piece : Some j ≡ end_at s m piece i → ends_branch (drop j s) ≡ true → Leads (phrase m piece (drop i s)) e itself a x → Leads (phrase (suc m) branch (drop i s)) e itself a x
     lead_piece w n l = leads_as (phrase (suc m) branch (drop i s)) (phrase m piece (drop i s)) (branch_alone j w n) l
 
-    pub lead_pieces : (y : ℕ) → At j ≡ end_at s m piece i → ends_branch (drop j s) ≡ false → Leads (phrase m piece (drop i s)) e itself a x → Leads (phrase m branch (drop j s)) e itself x y
+    pub lead_pieces : (y : ℕ) → Some j ≡ end_at s m piece i → ends_branch (drop j s) ≡ false → Leads (phrase m piece (drop i s)) e itself a x → Leads (phrase m branch (drop j s)) e itself x y
         → Leads (phrase (suc m) branch (drop i s)) e itself a y
     lead_pieces y w n l k =
         let r = reached s m piece i j w in
@@ -107,11 +107,11 @@ module _ (s : Text) (m i : ℕ) where
         leads_at (phrase (suc m) piece (drop i s)) end (drop (i + 1) s)
         (piece_at s m i ∙ by_false _ _ (eqb (get_or s i 0) 94) (eqb_false (get_or s i 0) 94 c) ∙ by_true _ _ (eqb (get_or s i 0) 36) (eqb_true (get_or s i 0) 36 n)) (λ b. q ∙ sym (ends_end e a h))
 
-    pub lead_unread : (x : ℕ) → (get_or s i 0 ≡ 94 → ⊥) → (get_or s i 0 ≡ 36 → ⊥) → Wrong ≡ end_at s m atom i → Leads (phrase (suc m) piece (drop i s)) e itself a x
+    pub lead_unread : (x : ℕ) → (get_or s i 0 ≡ 94 → ⊥) → (get_or s i 0 ≡ 36 → ⊥) → None ≡ end_at s m atom i → Leads (phrase (suc m) piece (drop i s)) e itself a x
     lead_unread x c d w = leads_none (phrase (suc m) piece (drop i s)) (piece_turns c d ∙ ap (λ o. on_read o read_repeat) (unread s m atom i w))
 
     -- the turns that the sign at j stands for
-    pub lead_turns : (j k h x y : ℕ) → (get_or s i 0 ≡ 94 → ⊥) → (get_or s i 0 ≡ 36 → ⊥) → At j ≡ end_at s m atom i → k ≡ least (get_or s j 0) (get_or s (j + 1) 0) → h ≡ further (get_or s j 0) (get_or s (j + 1) 0) (get_or s (j + 3) 0)
+    pub lead_turns : (j k h x y : ℕ) → (get_or s i 0 ≡ 94 → ⊥) → (get_or s i 0 ≡ 36 → ⊥) → Some j ≡ end_at s m atom i → k ≡ least (get_or s j 0) (get_or s (j + 1) 0) → h ≡ further (get_or s j 0) (get_or s (j + 1) 0) (get_or s (j + 3) 0)
         → Leads (phrase m atom (drop i s)) e (times k 0) a x → Leads (phrase m atom (drop i s)) e (up_to_or_any h) x y → Leads (phrase (suc m) piece (drop i s)) e itself a y
     lead_turns j k h x y c d w u v l g = record { ends = λ p ys q b. go p ys q b }
       where

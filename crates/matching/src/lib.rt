@@ -16,8 +16,7 @@ ghost use Rattle.intern.specs.Entries.{text_at};
 use bits::{put_bit, test_bit};
 use parts::text_of;
 use patterns::{
-    Next, atom_end, branch_end, byte_at, close_at, ends_branch, piece_end, read_pattern,
-    well_formed,
+    atom_end, branch_end, byte_at, close_at, ends_branch, piece_end, read_pattern, well_formed,
 };
 
 // Whether b is in the ranges that t lists, read left to right.
@@ -76,10 +75,8 @@ fn fitting(e: &[u8], t: &[u8], complement: bool) -> u64
     ensures { result ≡ fitting e.now t.now complement }
 {
     let mut r = 0;
-    let mut i = 0;
-    while i < e.len() {
+    for i in 0..e.len() {
         r = put_bit(r, i as u64, fits(t, complement, e[i]));
-        i += 1;
     }
     r
 }
@@ -89,10 +86,8 @@ fn all(e: &[u8]) -> u64
     requires { length e.now < 64 }
     ensures { result ≡ all e.now }
 {
-    let mut r = put_bit(0, 0, true);
-    let mut k = 0;
-    while k < e.len() {
-        k += 1;
+    let mut r = 0;
+    for k in 0..=e.len() {
         r = put_bit(r, k as u64, true);
     }
     r
@@ -102,10 +97,7 @@ fn all(e: &[u8]) -> u64
 fn digit(b: u8) -> u64
     ensures { result ≡ b - 48 }
 {
-    if b < 48 {
-        return 0;
-    }
-    (b - 48) as u64
+    u64::from(b.saturating_sub(48))
 }
 
 // The least number of turns that the repeat sign b asks for; m is the digit after a brace.
@@ -143,10 +135,7 @@ fn further(b: u8, m: u8, n: u8) -> u64
     if b == b'{' {
         let low = digit(m);
         let high = digit(n);
-        if high < low {
-            return 0;
-        }
-        return high - low;
+        return high.saturating_sub(low);
     }
     0
 }
@@ -216,9 +205,8 @@ fn simple(s: &[u8], at: usize, e: &[u8]) -> u64
 fn keep(rows: &mut [u64], k: u64)
     ensures { Each (λ i a r. r ≡ spot a k) rows.old rows.new }
 {
-    let n = rows.len();
-    for i in 0..n {
-        rows[i] = spot(rows[i], k);
+    for row in rows.iter_mut() {
+        *row = spot(*row, k);
     }
 }
 
@@ -227,9 +215,8 @@ fn step(rows: &mut [u64], bytes: u64)
     requires { bytes < 2 ^ 63 }
     ensures { Each (λ i a r. r ≡ bit_and a bytes * 2) rows.old rows.new }
 {
-    let n = rows.len();
-    for i in 0..n {
-        rows[i] = (rows[i] & bytes) * 2;
+    for row in rows.iter_mut() {
+        *row = (*row & bytes) * 2;
     }
 }
 
@@ -237,20 +224,8 @@ fn step(rows: &mut [u64], bytes: u64)
 fn singles(rows: &mut [u64])
     ensures { Each (λ i a r. r ≡ with_bit 0 i) rows.old rows.new }
 {
-    let n = rows.len();
-    for i in 0..n {
-        rows[i] = put_bit(0, i as u64, true);
-    }
-}
-
-// The rows as those of another.
-fn copy(rows: &mut [u64], other: &[u64])
-    requires { length rows.old ≡ length other.now }
-    ensures { Each (λ i a r. r ≡ get_or other.now i 0) rows.old rows.new }
-{
-    let n = rows.len();
-    for i in 0..n {
-        rows[i] = other[i];
+    for (i, row) in rows.iter_mut().enumerate() {
+        *row = put_bit(0, i as u64, true);
     }
 }
 
@@ -259,9 +234,8 @@ fn unite(rows: &mut [u64], other: &[u64])
     requires { length rows.old ≡ length other.now }
     ensures { Each (λ i a r. r ≡ bit_or a (get_or other.now i 0)) rows.old rows.new }
 {
-    let n = rows.len();
-    for i in 0..n {
-        rows[i] = rows[i] | other[i];
+    for (i, row) in rows.iter_mut().enumerate() {
+        *row |= other[i];
     }
 }
 
@@ -277,9 +251,8 @@ fn image(table: &[u64], set: u64) -> u64
     ensures { (o : Reading) (e : Text) → Turn o e table.now → Leads o e itself set result }
 {
     let mut r = 0;
-    let n = table.len();
-    for k in 0..n {
-        r = with(r, table[k], test_bit(set, k as u64));
+    for (k, &row) in table.iter().enumerate() {
+        r = with(r, row, test_bit(set, k as u64));
     }
     r
 }
@@ -317,9 +290,8 @@ fn all_turns(table: &[u64], set: u64) -> u64
     ensures { (o : Reading) (e : Text) → Turn o e table.now → Leads o e star set result }
 {
     let mut r = set;
-    let n = table.len();
-    for k in 0..n {
-        r = with(r, table[k], test_bit(r, k as u64));
+    for (k, &row) in table.iter().enumerate() {
+        r = with(r, row, test_bit(r, k as u64));
     }
     r
 }
@@ -339,9 +311,8 @@ fn turned(table: &[u64], set: u64, least: u64, further: u64) -> u64
 fn turn(rows: &mut [u64], table: &[u64], least: u64, further: u64)
     ensures { Each (λ i a r. (o : Reading) (e : Text) → Turn o e table.now → Turns o e least further a r) rows.old rows.new }
 {
-    let n = rows.len();
-    for i in 0..n {
-        rows[i] = turned(table, rows[i], least, further);
+    for row in rows.iter_mut() {
+        *row = turned(table, *row, least, further);
     }
 }
 
@@ -354,7 +325,7 @@ fn branches_rows(s: &[u8], at: usize, n: usize, e: &[u8], rows: &mut [u64])
     if n == 0 {
         return;
     }
-    let Next::At(i) = branch_end(s, at, n - 1) else {
+    let Some(i) = branch_end(s, at, n - 1) else {
         return;
     };
     if byte_at(s, i) != b'|' {
@@ -363,7 +334,7 @@ fn branches_rows(s: &[u8], at: usize, n: usize, e: &[u8], rows: &mut [u64])
     }
     let k = rows.len();
     let mut other = [0u64; 64];
-    copy(&mut other[..k], rows);
+    other[..k].copy_from_slice(rows);
     branch_rows(s, at, n - 1, e, rows);
     branches_rows(s, i + 1, n - 1, e, &mut other[..k]);
     unite(rows, &other[..k]);
@@ -378,7 +349,7 @@ fn branch_rows(s: &[u8], at: usize, n: usize, e: &[u8], rows: &mut [u64])
     if n == 0 {
         return;
     }
-    let Next::At(i) = piece_end(s, at, n - 1) else {
+    let Some(i) = piece_end(s, at, n - 1) else {
         return;
     };
     piece_rows(s, at, n - 1, e, rows);
@@ -406,7 +377,7 @@ fn piece_rows(s: &[u8], at: usize, n: usize, e: &[u8], rows: &mut [u64])
         keep(rows, e.len() as u64);
         return;
     }
-    let Next::At(i) = atom_end(s, at, n - 1) else {
+    let Some(i) = atom_end(s, at, n - 1) else {
         return;
     };
     let sign = sign_at(s, i);
@@ -492,14 +463,12 @@ pub fn half<'a>(facts: &'a [u8], query: &'a [u8], places: &[usize], token: u64, 
         return 0;
     }
     let mut r = 0;
-    let mut k = 0;
-    while k < 32 {
+    for k in 0..32 {
         r = put_bit(
             r,
             k as u64,
             is_match(facts, query, places, pattern, first, k),
         );
-        k += 1;
     }
     r
 }

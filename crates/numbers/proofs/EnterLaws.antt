@@ -8,33 +8,29 @@ use native.Mathlib.Omega.{arith}
 use lib.ListN.{length, get_or, take, drop, length-append, length-drop, take-append-drop}
 use lib.Seq.{length-take-le, take-take}
 use borrow.Author.Tests.{eq-eqb, ne_eqb, lt-ltb, le-ltb}
+use Rattle.std.specs.Ordering.{nat_cmp, ordering_index, MatchOrdering}
+use Rattle.std.specs.declared.cmp.Ordering.{Ordering}
+use Rattle.std.proofs.lemmas.Cmp.{ranked}
+use Rattle.std.specs.declared.cmp.Ordering.TheVariants.{Less, Equal, Greater}
+use Rattle.std.specs.List.Sorted.{IsNonDecreasingBy, IsPartitionPoint}
+use Rattle.std.proofs.lemmas.List.Sorted.{IsNonDecreasingBy-from_default}
 use Rattle.numbers.specs.Sets.{Ascending, entered}
 use Rattle.numbers.proofs.SetLaws.{ascends_at}
 
+-- of two numbers the larger one's answer is no lower
+rises_with : (x y v : ℕ) → x ≤ y → ordering_index (nat_cmp x v) ≤ ordering_index (nat_cmp y v)
+rises_with x y v h = go (nat_cmp x v) (nat_cmp y v) (ranked x v (nat_cmp x v) refl) (ranked y v (nat_cmp y v) refl)
+  where
+    go : (r s : Ordering) → MatchOrdering r (x < v) (x ≡ v) (v < x) → MatchOrdering s (y < v) (y ≡ v) (v < y) → ordering_index r ≤ ordering_index s
+    go Less s p q = omega arith
+    go Equal Less p q = absurd (omega arith)
+    go Equal Equal p q = omega arith
+    go Equal Greater p q = omega arith
+    go Greater Less p q = absurd (omega arith)
+    go Greater Equal p q = absurd (omega arith)
+    go Greater Greater p q = omega arith
+
 module _ (v : ℕ) where
-  -- the numbers before the place p are smaller, those from q on larger
-  pub record Between (ws : List ℕ) (p q : ℕ) : Type 0 where
-    pub small : (i : ℕ) → i < p → get_or ws i 0 < v
-    pub large : (i : ℕ) → q ≤ i → i < length ws → v < get_or ws i 0
-
-  pub between_all : (ws : List ℕ) → Between ws 0 (length ws)
-  between_all ws = record { small = λ i l. absurd (omega arith); large = λ i l m. absurd (omega arith) }
-
-  module _ (ws : List ℕ) (a : Ascending ws) (p q m : ℕ) (h : Between ws p q) (l : m < length ws) where
-    pub between_low : v < get_or ws m 0 → Between ws p m
-    between_low k =
-        record {
-          small = h.small;
-          large = λ i n o. ⊎_elim (λ (e : m ≡ i). subst (λ (j : ℕ). v < get_or ws j 0) e k) (λ (g : m < i). let r = ascends_at ws a m i g o in omega arith) (eq-or-lt_of_le n);
-        }
-
-    pub between_high : get_or ws m 0 < v → Between ws (m + 1) q
-    between_high k =
-        record {
-          small = λ i n. let n' : i ≤ m = omega arith in ⊎_elim (λ (e : i ≡ m). subst (λ (j : ℕ). get_or ws j 0 < v) (sym e) k) (λ (g : i < m). let r = ascends_at ws a i m g l in omega arith) (eq-or-lt_of_le n');
-          large = h.large;
-        }
-
   entered_new : (ws : List ℕ) (p : ℕ) → p ≤ length ws → ((i : ℕ) → i < p → get_or ws i 0 < v) → (p < length ws → v < get_or ws p 0) → entered v ws ≡ take p ws ++ v ∷ drop p ws
   unfolding entered
   entered_new [] zero h f g = refl
@@ -56,11 +52,25 @@ module _ (v : ℕ) where
       rw (ne_eqb v w (λ e. omega arith), le-ltb v w (omega arith))
       (ap (λ (r : List ℕ). w ∷ r) (entered_found ws p (le_of_suc-le-suc h) (λ i k. f (suc i) (omega arith)) e))
 
-  pub sorted_new : (ws : List ℕ) (p q : ℕ) → Between ws p q → p ≡ q → p ≤ length ws → entered v ws ≡ take p ws ++ v ∷ drop p ws
-  sorted_new ws p q h e l = entered_new ws p l h.small (λ k. h.large p (omega arith) k)
+  -- the library's search found v
+  pub sorted_found : (ws : List ℕ) (p : ℕ) → Ascending ws → p < length ws → nat_cmp (get_or ws p 0) v ≡ Equal → entered v ws ≡ ws
+  sorted_found ws p a l e =
+      let s : v ≡ get_or ws p 0 = sym (ranked (get_or ws p 0) v Equal (sym e)) in
+      entered_found ws p l (λ i k. subst (λ (x : ℕ). get_or ws i 0 < x) (sym s) (ascends_at ws a i p k l)) s
 
-  pub sorted_found : (ws : List ℕ) (p : ℕ) → Ascending ws → p < length ws → v ≡ get_or ws p 0 → entered v ws ≡ ws
-  sorted_found ws p a l e = entered_found ws p l (λ i k. subst (λ (x : ℕ). get_or ws i 0 < x) (sym e) (ascends_at ws a i p k l)) e
+  -- its answers rise along the set
+  answers_rise : (ws : List ℕ) → Ascending ws → IsNonDecreasingBy (λ y. ordering_index (nat_cmp y v)) ws
+  answers_rise ws a = IsNonDecreasingBy-from_default (λ y. ordering_index (nat_cmp y v)) ws 0 (λ i j n l.
+      ⊎_elim (λ (e : i ≡ j). rises_with (get_or ws i 0) (get_or ws j 0) v (subst (λ (k : ℕ). get_or ws i 0 ≤ get_or ws k 0) e (omega arith)))
+      (λ (k : i < j). let r = ascends_at ws a i j k l in rises_with (get_or ws i 0) (get_or ws j 0) v (omega (arith, r))) (eq-or-lt_of_le n))
+
+  -- or the place for it
+  pub sorted_new : (ws : List ℕ) (p : ℕ) → Ascending ws → p ≤ length ws
+      → (IsNonDecreasingBy (λ y. ordering_index (nat_cmp y v)) ws → IsPartitionPoint (λ y. nat_cmp y v ≡ Less) (λ y. nat_cmp y v ≡ Greater) ws p)
+      → entered v ws ≡ take p ws ++ v ∷ drop p ws
+  sorted_new ws p a l f =
+      let g = f (answers_rise ws a) in
+      entered_new ws p l (λ i k. ranked (get_or ws i 0) v Less (sym (g.0 i 0 (omega arith) k))) (λ k. ranked (get_or ws p 0) v Greater (sym (g.1 p 0 (omega arith) k)))
 
 -- the set with its new number in place of the first n words
 module _ (words : List ℕ) (n v : ℕ) (within : n < length words) where

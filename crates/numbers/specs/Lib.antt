@@ -1,3 +1,2 @@
 -- Sets of numbers as ascending lists.
 pub mod Sets
-pub mod Places

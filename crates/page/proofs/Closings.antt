@@ -18,8 +18,7 @@ use Rattle.definition.specs.declared.Ending.{Ending}
 use Rattle.definition.specs.declared.Ending.TheVariants.{Done, Spent, Full}
 use Rattle.definition.specs.declared.Refusal.{Refusal}
 use Rattle.definition.specs.declared.Stopped.{Stopped}
-use Rattle.definition.specs.declared.Ran.{Ran}
-use Rattle.definition.specs.declared.Ran.TheVariants.{Ended, Refused}
+use Rattle.std.specs.Prelude.{Result, Ok, Err}
 use Rattle.lines.specs.Put.{Put}
 use Rattle.lines.proofs.Digits.{few_digits}
 use Rattle.page.specs.Closing.{LINE_BYTES, closing, refusal_text, shown, Closes}
@@ -42,21 +41,21 @@ few_in_word Spent = omega arith
 few_in_word Full = omega arith
 
 -- no line is longer than LINE-BYTES
-pub few_in_line : (a : Ran) → length (closing a) ≤ LINE_BYTES
+pub few_in_line : (a : Result Stopped Refusal) → length (closing a) ≤ LINE_BYTES
 unfolding page
-few_in_line (Ended s) =
+few_in_line (Ok s) =
     let d = decimal s.steps in
     omega (arith, length-append (ending_word s.ending) (32 ∷ (d ++ (10 ∷ []))), length-append d (10 ∷ []), few_in_word s.ending, few_digits 10 s.steps)
-few_in_line (Refused q) =
+few_in_line (Err q) =
     let m = decimal (number q) in
     let e = decimal (place q) in
     omega (arith, length-append m (32 ∷ (e ++ (10 ∷ []))), length-append e (10 ∷ []), few_digits 10 (number q), few_digits 10 (place q))
 
 -- a buffer that is too short, and one that has the line put to its start
-pub closes_short : (a : Ran) (buffer : List ℕ) → length buffer < LINE_BYTES → Closes a buffer 0 buffer
+pub closes_short : (a : Result Stopped Refusal) (buffer : List ℕ) → length buffer < LINE_BYTES → Closes a buffer 0 buffer
 closes_short a buffer h = record { count = simp (lt-ltb (length buffer) LINE_BYTES h); bytes = simp (lt-ltb (length buffer) LINE_BYTES h) }
 
-pub closes_put : (a : Ran) (buffer : List ℕ) {n : ℕ} {buffer' : List ℕ} → LINE_BYTES ≤ length buffer → Put true buffer 0 (closing a) n buffer' → Closes a buffer n buffer'
+pub closes_put : (a : Result Stopped Refusal) (buffer : List ℕ) {n : ℕ} {buffer' : List ℕ} → LINE_BYTES ≤ length buffer → Put true buffer 0 (closing a) n buffer' → Closes a buffer n buffer'
 closes_put a buffer {n} {buffer'} h p =
     let l = few_in_line a in
     let z : 0 + length (closing a) ≡ length (closing a) = omega arith in
@@ -68,13 +67,13 @@ closes_put a buffer {n} {buffer'} h p =
     }
 
 -- what is printed before the line and the line are the page
-pub page_parts : (a : Ran) (output : Text) → take (shown a) output ++ closing a ≡ page (ran_answer a) (take (shown a) output)
+pub page_parts : (a : Result Stopped Refusal) (output : Text) → take (shown a) output ++ closing a ≡ page (ran_answer a) (take (shown a) output)
 unfolding page
-page_parts (Ended s) output = refl
-page_parts (Refused q) output = refl
+page_parts (Ok s) output = refl
+page_parts (Err q) output = refl
 
 -- the line in a buffer that is long enough
-module _ {a : Ran} {buffer : List ℕ} {n : ℕ} {buffer' : List ℕ} (h : LINE_BYTES ≤ length buffer) (p : Closes a buffer n buffer') where
+module _ {a : Result Stopped Refusal} {buffer : List ℕ} {n : ℕ} {buffer' : List ℕ} (h : LINE_BYTES ≤ length buffer) (p : Closes a buffer n buffer') where
   closed : n ≡ length (closing a)
   closed = p.count ∙ ap (λ (b : Bool). cond b 0 (length (closing a))) (le-ltb (length buffer) LINE_BYTES h)
 

@@ -9,7 +9,7 @@ ghost use Rattle.lines.specs.Put.{Put};
 ghost use Rattle.page.specs.Closing.{refusal_text, Closes};
 ghost use Rattle.page.specs.Closing.{shown as bytes_shown};
 
-use definition::{Ending, Ran, Refusal, Stopped};
+use definition::{Ending, Refusal, Stopped};
 use lines::{put, put_decimal, put_text};
 
 // Puts a space and a number.
@@ -61,24 +61,24 @@ fn put_refused(out: &mut [u8], q: Refusal) -> usize
 }
 
 // Writes the closing line at the start of the buffer and answers its length; a buffer of under 30 bytes, the longest line's, stays, and the answer is 0.
-pub fn close(a: Ran, out: &mut [u8]) -> usize
+pub fn close(a: Result<Stopped, Refusal>, out: &mut [u8]) -> usize
     ensures { Closes a out.old result out.new }
 {
     if out.len() < 30 {
         return 0;
     }
     match a {
-        Ran::Ended(s) => put_stopped(out, s),
-        Ran::Refused(q) => put_refused(out, q),
+        Ok(s) => put_stopped(out, s),
+        Err(q) => put_refused(out, q),
     }
 }
 
 // How many bytes of the output stand before the closing line.
-pub fn shown(a: Ran) -> usize
+pub fn shown(a: Result<Stopped, Refusal>) -> usize
     ensures { result ≡ bytes_shown a }
 {
     match a {
-        Ran::Ended(s) => s.written,
-        Ran::Refused(_) => 0,
+        Ok(s) => s.written,
+        Err(_) => 0,
     }
 }

@@ -1,5 +1,5 @@
 -- What the lexer and the parser answer, put together as the definition's read-query.
-use Rattle.std.specs.Prelude.{if◌then◌else◌}
+use Rattle.std.specs.Prelude.{Result, Ok, Err, if◌then◌else◌}
 use mathlib.Core.Bool.{Bool, true, false}
 use mathlib.Core.List.{List, [], ◌∷◌, ◌++◌, append-nil}
 use mathlib.Core.Path.{◌≡◌, refl, ap, sym, subst, ◌∙◌}
@@ -26,19 +26,15 @@ use Rattle.definition.specs.Token as Token
 use Rattle.intern.proofs.Lexed.{lexed_stand}
 use Rattle.lexer.proofs.Held.{length_tokens, terminals_held, token_held, place_held, place_past, query_read}
 use Rattle.lexer.specs.Answers.{query_tokens, answer, count_of}
-use Rattle.lexer.specs.declared.Lexed.{Lexed}
-use Rattle.lexer.specs.declared.Lexed.TheVariants.{Tokens}
-use Rattle.lexer.specs.declared.Lexed.TheVariants as Lexing
+use Rattle.std.specs.Prelude.{Result, Ok, Err}
 use Rattle.lexer.specs.Tokens.{NAME, STRING, NUMBER, LARGE_NUMBER, FIRST_SIGN, sign_of, kind_of, at_of, terminal_of, tokens_of, terminals_of, Inside}
-use Rattle.parser.specs.declared.QueryRead.{QueryRead}
-use Rattle.parser.specs.declared.QueryRead.TheVariants as QueryRead
 use Rattle.parser.specs.Queries.{ReadAs, IsRead, Lexes, IsParsed, place_in, RefusedAt, too_deep, an_excess, no_program}
 use Rattle.simple.specs.Statements.{Places}
 use Rattle.statements.proofs.SequenceLaws.{tokens_hold}
 use Rattle.statements.specs.Blocks.{whole, ends, IsProgram}
-use Rattle.terms.specs.declared.Answer as Parser
-use Rattle.terms.specs.declared.Answer.TheVariants.{Read, Refused}
-use Rattle.terms.specs.Phrases.{Wrote}
+use Rattle.terms.specs.declared.ParseError.{ParseError}
+use Rattle.terms.specs.Phrases as Phrases
+use Rattle.terms.specs.Phrases.{row_of, token_of, Wrote}
 use Rattle.words.proofs.Said.{Numbered, AllNumbered, said}
 use Rattle.words.proofs.Sizes.{length_program}
 use Rattle.words.specs.Tokens.{OwnProgram}
@@ -130,8 +126,8 @@ read_no query {ts} row q e f =
 pub query_refused : (query : Text) (r : Refusal) → query_tokens query ≡ Answers.refused (number r) (place r) → read_query query ≡ Answers.refused (number r) (place r)
 query_refused query r e = query_read query ∙ ap (λ o. ◌>>=◌ o (λ ts. ◌>>=◌ (read_answer (length query) ts (read_program (terminals ts))) (λ p. ok (says ts p)))) e
 
-module _ (query : Text) {ws A A' : List ℕ} {a : Parser.Answer} (l : Lexes query ws (length A)) (h : IsProgram ws A A' a) where
-  pub tokens_read : {q m : ℕ} → a ≡ Read q m → (q ≡ length ws) × ReadAs query ws (take m A') q m
+module _ (query : Text) {ws A A' : List ℕ} {a : Phrases.Answer} (l : Lexes query ws (length A)) (h : IsProgram ws A A' a) where
+  pub tokens_read : {q m : ℕ} → a ≡ Ok (q, m) → (q ≡ length ws) × ReadAs query ws (take m A') q m
   tokens_read {q} {m} i =
       let b = subst (ends ws) i h.bounds in
       let f = subst (whole ws (tokens_of query 0 ws) A A') i (h.at (tokens_of query 0 ws) (tokens_hold query ws)) in
@@ -168,16 +164,16 @@ module _ (query : Text) {ws A A' : List ℕ} {a : Parser.Answer} (l : Lexes quer
   row_ten (row_19 k g) e f h = absurd (h cc)
   row_ten (row_13 k g) e f h = absurd (f cc)
 
-  pub tokens_refused : {row q : ℕ} {r : Refusal} → a ≡ Refused row q → RefusedAt (length query) ws row q r → read_query query ≡ Answers.refused (number r) (place r)
-  tokens_refused {row} {q} {r} i d = by d
+  pub tokens_refused : {why : ParseError} {r : Refusal} → a ≡ Err why → RefusedAt (length query) ws (row_of why) (token_of why) r → read_query query ≡ Answers.refused (number r) (place r)
+  tokens_refused {why} {r} i d = by d
     where
-      e : read_answer (length query) (tokens_of query 0 ws) (read_program (terminals (tokens_of query 0 ws))) ≡ refused row (place_at (length query) (tokens_of query 0 ws) q)
+      e : read_answer (length query) (tokens_of query 0 ws) (read_program (terminals (tokens_of query 0 ws))) ≡ refused (row_of why) (place_at (length query) (tokens_of query 0 ws) (token_of why))
       e = subst (whole ws (tokens_of query 0 ws) A A') i (h.at (tokens_of query 0 ws) (tokens_hold query ws)) (length query)
 
-      of_row : (k : ℕ) → row ≡ k → read_query query ≡ Answers.refused k (place_in (length query) ws q)
-      of_row k f = read_no query row _ l.tokens e ∙ ap (λ k. refused k (place_at (length query) (tokens_of query 0 ws) q)) f ∙ ap (refused k) (here (length query) q)
+      of_row : (k : ℕ) → row_of why ≡ k → read_query query ≡ Answers.refused k (place_in (length query) ws (token_of why))
+      of_row k f = read_no query (row_of why) _ l.tokens e ∙ ap (λ k. refused k (place_at (length query) (tokens_of query 0 ws) (token_of why))) f ∙ ap (refused k) (here (length query) (token_of why))
 
-      by : {r : Refusal} → RefusedAt (length query) ws row q r → read_query query ≡ Answers.refused (number r) (place r)
+      by : {r : Refusal} → RefusedAt (length query) ws (row_of why) (token_of why) r → read_query query ≡ Answers.refused (number r) (place r)
       by (too_deep f) = of_row 13 f
       by (an_excess f) = of_row 19 f
       by (no_program f g) = of_row 10 (row_ten (grammar_rows (length query) (tokens_of query 0 ws)) e f g)
@@ -191,21 +187,21 @@ unfolding place_in
 place_outside n ws q h = ap (λ b. if b then (at_of (get_or ws q 0)) else n) (sym (le-ltb q (length ws) h))
 
 -- what the lexer answers
-pub lexed_few : {l : Lexed} {n : ℕ} → l ≡ Tokens n → count_of l ≤ 2048 → n ≤ 2048
+pub lexed_few : {l : Result ℕ Refusal} {n : ℕ} → l ≡ Ok n → count_of l ≤ 2048 → n ≤ 2048
 lexed_few e h = rw e at h
 
-pub lexes : (query : Text) (words : List ℕ) {l : Lexed} {n M : ℕ} → l ≡ Tokens n → answer query words l ≡ query_tokens query → count_of l ≤ 2048 → Inside query (take (count_of l) words) → 2048 ≤ length words → 2048 ≤ M → Lexes query (take n words) M
+pub lexes : (query : Text) (words : List ℕ) {l : Result ℕ Refusal} {n M : ℕ} → l ≡ Ok n → answer query words l ≡ query_tokens query → count_of l ≤ 2048 → Inside query (take (count_of l) words) → 2048 ≤ length words → 2048 ≤ M → Lexes query (take n words) M
 lexes query words {l} {n} {M} e f h i long room = by (rw e at f) (rw e at h) (rw e at i)
   where
     by : ok (tokens_of query 0 (take n words)) ≡ query_tokens query → n ≤ 2048 → Inside query (take n words) → Lexes query (take n words) M
     by f h i = record { tokens = sym f; inside = i; few = omega (arith, h, length-take-le n words (omega (arith, h, long))); room = room }
 
-pub all_read : (query : Text) (tokens words : List ℕ) (n : ℕ) (r : QueryRead) → n ≤ length tokens → IsParsed query (take n tokens) words r → IsRead query tokens words r
+pub all_read : (query : Text) (tokens words : List ℕ) (n : ℕ) (r : Result (ℕ × ℕ) Refusal) → n ≤ length tokens → IsParsed query (take n tokens) words r → IsRead query tokens words r
 all_read query tokens words n r h p = by r p
   where
-    by : (r : QueryRead) → IsParsed query (take n tokens) words r → IsRead query tokens words r
-    by (QueryRead.Read t m) p = subst (λ k. ReadAs query (take k tokens) (take m words) t m) (sym (p.0 ∙ length-take-le n tokens h)) p.1
-    by (QueryRead.Refused q) p = p
+    by : (r : Result (ℕ × ℕ) Refusal) → IsParsed query (take n tokens) words r → IsRead query tokens words r
+    by (Ok (t, m)) p = subst (λ k. ReadAs query (take k tokens) (take m words) t m) (sym (p.0 ∙ length-take-le n tokens h)) p.1
+    by (Err q) p = p
 
-pub not_lexed : (query : Text) (words : List ℕ) {l : Lexed} {r : Refusal} → l ≡ Lexing.Refused r → answer query words l ≡ query_tokens query → read_query query ≡ refused (number r) (place r)
+pub not_lexed : (query : Text) (words : List ℕ) {l : Result ℕ Refusal} {r : Refusal} → l ≡ Err r → answer query words l ≡ query_tokens query → read_query query ≡ refused (number r) (place r)
 not_lexed query words {l} {r} e f = query_refused query r (sym (rw e at f))

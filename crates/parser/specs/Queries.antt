@@ -1,5 +1,5 @@
 -- A query as its tokens and the words of its program, or the refusal of rows 8, 9, 10, 19 and 13 as the definition has it.
-use Rattle.std.specs.Prelude.{List, ◌≡◌, ℕ, ◌≤◌, ltb, length, take, get_or, if◌then◌else◌}
+use Rattle.std.specs.Prelude.{Result, Ok, Err, List, ◌≡◌, ℕ, ◌≤◌, ltb, length, take, get_or, if◌then◌else◌}
 use Rattle.definition.specs.Accept.{read_query}
 use Rattle.definition.specs.Answer as Answers
 use Rattle.definition.specs.Answer.{ok, number, place}
@@ -10,8 +10,6 @@ use Rattle.definition.specs.Text.{Text}
 use Rattle.kinds.specs.Resolved.{Parsed}
 use Rattle.lexer.specs.Answers.{query_tokens}
 use Rattle.lexer.specs.Tokens.{at_of, tokens_of, Inside}
-use Rattle.parser.specs.declared.QueryRead.{QueryRead}
-use Rattle.parser.specs.declared.QueryRead.TheVariants.{Read, Refused}
 
 -- the query is a program: t tokens, which the words hold, and m words
 pub record ReadAs (query : Text) (tokens words : List ℕ) (t m : ℕ) : Type 0 where
@@ -23,9 +21,9 @@ pub record ReadAs (query : Text) (tokens words : List ℕ) (t m : ℕ) : Type 0 
   pub paid : m ≤ t
 
 -- the code's answer, with what it leaves in the two arrays
-abbrev pub IsRead : Text → List ℕ → List ℕ → QueryRead → Type 0
-IsRead query tokens words (Read t m) = ReadAs query (take t tokens) (take m words) t m
-IsRead query tokens words (Refused q) = read_query query ≡ Answers.refused (number q) (place q)
+abbrev pub IsRead : Text → List ℕ → List ℕ → Result (ℕ × ℕ) Refusal → Type 0
+IsRead query tokens words (Ok (t, m)) = ReadAs query (take t tokens) (take m words) t m
+IsRead query tokens words (Err q) = read_query query ≡ Answers.refused (number q) (place q)
 
 -- the query's tokens are read, and there is room for words
 pub record Lexes (query : Text) (ws : List ℕ) (M : ℕ) : Type 0 where
@@ -35,9 +33,9 @@ pub record Lexes (query : Text) (ws : List ℕ) (M : ℕ) : Type 0 where
   pub room : 2048 ≤ M
 
 -- the answer for all of those tokens
-abbrev pub IsParsed : Text → List ℕ → List ℕ → QueryRead → Type 0
-IsParsed query ws words (Read t m) = (t ≡ length ws) × ReadAs query ws (take m words) t m
-IsParsed query ws words (Refused q) = read_query query ≡ Answers.refused (number q) (place q)
+abbrev pub IsParsed : Text → List ℕ → List ℕ → Result (ℕ × ℕ) Refusal → Type 0
+IsParsed query ws words (Ok (t, m)) = (t ≡ length ws) × ReadAs query ws (take m words) t m
+IsParsed query ws words (Err q) = read_query query ≡ Answers.refused (number q) (place q)
 
 -- the place of a token by its number; past the last, the query's length n
 unfoldable pub place_in : ℕ → List ℕ → ℕ → ℕ

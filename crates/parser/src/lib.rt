@@ -3,18 +3,12 @@
 
 ghost use Rattle.std.specs.Prelude.{length, ◌≡◌, ◌≤◌};
 ghost use Rattle.parser.specs.Queries.{IsRead, Lexes, IsParsed, place_in, RefusedAt};
+ghost use Rattle.terms.specs.Phrases.{row_of, token_of};
 
 use definition::Refusal;
-use lexer::{Lexed, lex, place};
+use lexer::{lex, place};
 use statements::parse;
-use terms::Answer;
-
-// How many tokens and words there are, or why the query is refused.
-#[derive(Clone, Copy)]
-pub enum QueryRead {
-    Read(usize, usize),
-    Refused(Refusal),
-}
+use terms::ParseError;
 
 // The place of the token q; past the last, the query's length.
 fn place_at(query: &[u8], tokens: &[u64], q: usize) -> usize
@@ -26,38 +20,37 @@ fn place_at(query: &[u8], tokens: &[u64], q: usize) -> usize
     query.len()
 }
 
-// The refusal by a row, 10, 19 or 13, at the token q.
-fn refusal(query: &[u8], tokens: &[u64], row: usize, q: usize) -> Refusal
-    ensures { RefusedAt (length query.now) tokens.now row q result }
+// The refusal for what the statements' reader finds wrong.
+fn refusal(query: &[u8], tokens: &[u64], e: ParseError) -> Refusal
+    ensures { RefusedAt (length query.now) tokens.now (row_of e) (token_of e) result }
 {
-    let at = place_at(query, tokens, q);
-    if row == 13 {
-        return Refusal::TooMuch(at);
+    match e {
+        ParseError::NoProgram(q) => Refusal::NoProgram(place_at(query, tokens, q)),
+        ParseError::TooMuch(q) => Refusal::TooMuch(place_at(query, tokens, q)),
+        ParseError::Number(q) => Refusal::Number(place_at(query, tokens, q)),
     }
-    if row == 19 {
-        return Refusal::Number(at);
-    }
-    Refusal::NoProgram(at)
 }
 
 // The words of the program that the query's tokens are.
-fn read_tokens(query: &[u8], tokens: &[u64], words: &mut [u64]) -> QueryRead
+fn read_tokens(query: &[u8], tokens: &[u64], words: &mut [u64]) -> Result<(usize, usize), Refusal>
     requires { Lexes query.now tokens.now (length words.old) }
     ensures { IsParsed query.now tokens.now words.new result }
 {
     match parse(tokens, words) {
-        Answer::Read(t, m) => QueryRead::Read(t, m),
-        Answer::Refused(row, q) => QueryRead::Refused(refusal(query, tokens, row, q)),
+        Ok((t, m)) => Ok((t, m)),
+        Err(e) => Err(refusal(query, tokens, e)),
     }
 }
 
-// Rows 8, 9, 10, 19 and 13, or the query's tokens and words. What stands behind them, and all of both on a refusal, may be anything.
-pub fn read_query(query: &[u8], tokens: &mut [u64], words: &mut [u64]) -> QueryRead
+// How many tokens and words the query has, or row 8, 9, 10, 19 or 13. What stands behind them, and all of both on a refusal, may be anything.
+pub fn read_query(
+    query: &[u8],
+    tokens: &mut [u64],
+    words: &mut [u64],
+) -> Result<(usize, usize), Refusal>
     requires { (2048 ≤ length tokens.old) × (2048 ≤ length words.old) }
     ensures { IsRead query.now tokens.new words.new result }
 {
-    match lex(query, tokens) {
-        Lexed::Tokens(n) => read_tokens(query, &tokens[..n], words),
-        Lexed::Refused(r) => QueryRead::Refused(r),
-    }
+    let n = lex(query, tokens)?;
+    read_tokens(query, &tokens[..n], words)
 }

@@ -2,10 +2,11 @@
 // word, or the row and the place of the refusal.
 #![tactic(auto)]
 
+use definition::Refusal;
 use lines::{put, put_decimal};
 use listing::{Item, put_items};
 use page::{put_number, put_refusal};
-use parser::{QueryRead, read_query};
+use parser::read_query;
 use parts::part;
 use std::io;
 
@@ -15,14 +16,14 @@ fn write_line(rt: &impl Print, line: &mut [u8], n: usize) -> io::Result<()> {
     rt.write_all(part(line, 0, end))
 }
 
-fn put_read(line: &mut [u8], r: QueryRead, words: &[u64]) -> usize {
+fn put_read(line: &mut [u8], r: Result<(usize, usize), Refusal>, words: &[u64]) -> usize {
     match r {
-        QueryRead::Read(t, m) => {
+        Ok((t, m)) => {
             let p = put_decimal(line, 0, t as u64, true);
             let w = put_number(line, p, m as u64);
             put_items(line, w, Item::Word, words, m)
         }
-        QueryRead::Refused(q) => put_refusal(line, q),
+        Err(q) => put_refusal(line, q),
     }
 }
 

@@ -1,28 +1,27 @@
 -- A part entered into a sorted list, by its place.
-use Prim.Native.Nat.{ℕ, zero, suc, ◌+◌, ◌-◌, ◌<◌, ◌≤◌}
+use Prim.Native.Nat.{ℕ, zero, suc, ◌+◌, ◌<◌, ◌≤◌}
 use mathlib.Core.Path.{◌≡◌, refl, sym, ap, subst, ◌∙◌}
 use mathlib.Core.List.{List, [], ◌∷◌, ◌++◌, append_assoc}
 use mathlib.Core.Bool.{Bool, true, false}
 use native.Mathlib.Numerals.{add-one}
-use native.Mathlib.Nat.{zero-add, suc-add}
 use native.Mathlib.Omega.{arith}
 use native.Mathlib.Decide.{dec_lt}
 use lib.Dec.{T, ltb}
 use lib.ListN.{length, get_or, take, drop, set, drop_of_length-le, length-append, length-set, length-drop, take-append-drop}
-use lib.Seq.{drop-cons, take-suc, set_split, length-take-le, set-append_left, paste, paste-zero, paste-suc, get_or-drop, take-nil, length_paste_head, get_or-append-add, take-take}
+use lib.Seq.{drop-cons, take-suc, set_split, length-take-le, set-append_left, take-take}
 use borrow.Author.Tests.{le-ltb, lt-ltb}
+use Rattle.std.proofs.lemmas.List.{drop-take}
 use Rattle.definition.specs.Text.{Text, same, earlier}
 use Rattle.definition.proofs.MeaningLaws.{same_eq}
 use Rattle.definition.specs.Facts.{Ascending}
 use Rattle.definition.proofs.UniverseLaws.{earlier_not_same, earlier_trans}
 use Rattle.texts.specs.Orders.{order}
-use Rattle.texts.specs.declared.Order.TheVariants.{Before, Same, After}
+use Rattle.std.specs.Prelude.{Ok, Err, Some, None}
+use Rattle.std.specs.declared.cmp.Ordering.TheVariants.{Less, Equal, Greater}
 use Rattle.texts.proofs.OrderLaws.{is_same, is_before, is_after}
 use Rattle.parts.specs.Packed.{text_of}
 use Rattle.parts.specs.Entries.{enter, in_front, count_in, texts_of}
 use Rattle.parts.specs.Places.{entered_at}
-use Rattle.parts.specs.declared.Place.TheVariants.{Found, New}
-use Rattle.parts.specs.declared.Entered.TheVariants.{Count, Full}
 
 refuted : (b : Bool) → (T b → ⊥) → b ≡ false
 refuted true f = absurd (f tt)
@@ -37,22 +36,22 @@ module _ (facts query : Text) (v : ℕ) where
   passed_none ws = record { is = refl }
 
   module _ (ws : List ℕ) (p : ℕ) (h : Passed ws p) where
-    pub passed_end : length ws ≤ p → enter facts query v ws ≡ entered_at v ws (New p)
+    pub passed_end : length ws ≤ p → enter facts query v ws ≡ entered_at v ws (Err p)
     unfolding enter
     passed_end l = h.is ∙ rw (drop_of_length-le ws)
 
     module _ (l : p < length ws) where
-      pub passed_found : order (text_of facts query v) (text_of facts query (get_or ws p 0)) ≡ Same → enter facts query v ws ≡ entered_at v ws (Found p)
+      pub passed_found : order (text_of facts query v) (text_of facts query (get_or ws p 0)) ≡ Equal → enter facts query v ws ≡ entered_at v ws (Ok p)
       unfolding enter
       passed_found e = h.is ∙ rw (drop-cons ws p 0, is_same (text_of facts query v) (text_of facts query (get_or ws p 0)) e)
 
-      pub passed_new : order (text_of facts query v) (text_of facts query (get_or ws p 0)) ≡ Before → enter facts query v ws ≡ entered_at v ws (New p)
+      pub passed_new : order (text_of facts query v) (text_of facts query (get_or ws p 0)) ≡ Less → enter facts query v ws ≡ entered_at v ws (Err p)
       unfolding enter
       passed_new e =
           let b = is_before (text_of facts query v) (text_of facts query (get_or ws p 0)) e in
           h.is ∙ rw (drop-cons ws p 0, b.0, b.1)
 
-      pub passed_one : order (text_of facts query v) (text_of facts query (get_or ws p 0)) ≡ After → Passed ws (p + 1)
+      pub passed_one : order (text_of facts query v) (text_of facts query (get_or ws p 0)) ≡ Greater → Passed ws (p + 1)
       unfolding enter
       passed_one e =
           let b = is_after (text_of facts query v) (text_of facts query (get_or ws p 0)) e in
@@ -81,85 +80,33 @@ module _ (facts query : Text) (v : ℕ) where
   -- a search that need not pass the parts one by one
   module _ (ws : List ℕ) (p : ℕ) where
     module _ (a : Ascending (texts_of facts query ws)) (l : p < length ws) where
-      pub sorted_found : order (text_of facts query v) (text_of facts query (get_or ws p 0)) ≡ Same → enter facts query v ws ≡ entered_at v ws (Found p)
+      pub sorted_found : order (text_of facts query v) (text_of facts query (get_or ws p 0)) ≡ Equal → enter facts query v ws ≡ entered_at v ws (Ok p)
       sorted_found e =
           let m : T (same (text v) (text (get_or ws p 0))) = rw (is_same (text v) (text (get_or ws p 0)) e) tt in
           passed_found ws p (passed_to ws p a l (λ b. earlier_not_same (text v) (text (get_or ws p 0)) b m)) l e
 
-      pub sorted_after : order (text_of facts query v) (text_of facts query (get_or ws p 0)) ≡ After → Passed ws (p + 1)
+      pub sorted_after : order (text_of facts query v) (text_of facts query (get_or ws p 0)) ≡ Greater → Passed ws (p + 1)
       sorted_after e = passed_one ws p (passed_to ws p a l (λ b. subst T (is_after (text v) (text (get_or ws p 0)) e).1 b)) l e
 
-    pub sorted_new : (q : ℕ) → q ≡ p → Passed ws p → (q < length ws → order (text_of facts query v) (text_of facts query (get_or ws q 0)) ≡ Before) → enter facts query v ws ≡ entered_at v ws (New p)
+    pub sorted_new : (q : ℕ) → q ≡ p → Passed ws p → (q < length ws → order (text_of facts query v) (text_of facts query (get_or ws q 0)) ≡ Less) → enter facts query v ws ≡ entered_at v ws (Err p)
     sorted_new q e h f = go (dec_lt p (length ws))
       where
-        go : Dec (p < length ws) → enter facts query v ws ≡ entered_at v ws (New p)
-        go (yes l) = passed_new ws p h l (subst (λ (k : ℕ). order (text_of facts query v) (text_of facts query (get_or ws k 0)) ≡ Before) e (f (omega arith)))
+        go : Dec (p < length ws) → enter facts query v ws ≡ entered_at v ws (Err p)
+        go (yes l) = passed_new ws p h l (subst (λ (k : ℕ). order (text_of facts query v) (text_of facts query (get_or ws k 0)) ≡ Less) e (f (omega arith)))
         go (no l) = passed_end ws p h (omega arith)
 
--- putting a number among the first words, one step to the right after the other
 pub take_drop : (m p : ℕ) (d : List ℕ) → take m (drop p d) ≡ drop p (take (p + m) d)
-take_drop m zero d = ap (λ (k : ℕ). take k d) (sym (zero-add m))
-take_drop m (suc p) [] = take-nil m ∙ sym (ap (drop (suc p)) (take-nil (suc p + m)))
-take_drop m (suc p) (x ∷ d) = take_drop m p d ∙ ap (λ (k : ℕ). drop (suc p) (take k (x ∷ d))) (sym (suc-add p m))
-
-module _ (d : List ℕ) (p v : ℕ) where
-  -- the words after j steps: those from p on have moved up
-  pub record Moved (words : List ℕ) (carried i : ℕ) : Type 0 where
-    pub from : p ≤ i
-    pub words_are : words ≡ paste d p (v ∷ drop p d) (i - p)
-    pub carries : carried ≡ get_or (v ∷ drop p d) (i - p) 0
-
-  pub moved_none : Moved d v p
-  moved_none = let e : p - p ≡ 0 = omega arith in record { from = omega arith; words_are = rw e (paste-zero d p (v ∷ drop p d)); carries = rw e }
-
-  module _ (words : List ℕ) (carried i : ℕ) (h : Moved words carried i) (l : i < length d) where
-    place : p + (i - p) ≡ i
-    place = omega (arith, h.from)
-
-    inside : i - p < length (v ∷ drop p d)
-    inside = rw length-drop (omega (arith, h.from))
-
-    here : length (take p d ++ take (i - p) (v ∷ drop p d)) + 0 ≡ i
-    here = let g : p ≤ length d = omega (arith, h.from) in rw (length_paste_head d p (v ∷ drop p d) (i - p) g (omega (arith, inside))) (omega (arith, h.from))
-
-    next : get_or words i 0 ≡ get_or d i 0
-    next =
-        ap (λ (ws : List ℕ). get_or ws i 0) h.words_are
-        ∙ ap (λ (k : ℕ). get_or (paste d p (v ∷ drop p d) (i - p)) k 0) (sym here)
-        ∙ get_or-append-add (take p d ++ take (i - p) (v ∷ drop p d)) (drop (p + (i - p)) d) 0 0
-        ∙ get_or-drop (p + (i - p)) d 0 0
-        ∙ ap (λ (k : ℕ). get_or d k 0) (omega (arith, h.from))
-
-    pub moved_one : Moved (set words i carried) (get_or words i 0) (i + 1)
-    moved_one =
-        let e : i + 1 - p ≡ suc (i - p) = omega (arith, h.from) in
-        record {
-          from = omega (arith, h.from);
-          words_are =
-              ap (λ (ws : List ℕ). set ws i carried) h.words_are
-              ∙ ap (λ (k : ℕ). set (paste d p (v ∷ drop p d) (i - p)) k carried) (sym place)
-              ∙ ap (λ (k : ℕ). set (paste d p (v ∷ drop p d) (i - p)) (p + (i - p)) k) h.carries
-              ∙ paste-suc d p (v ∷ drop p d) (i - p) 0 (omega (arith, h.from)) inside
-              ∙ ap (paste d p (v ∷ drop p d)) (sym e);
-          carries = next ∙ ap (λ (k : ℕ). get_or d k 0) (sym place) ∙ sym (get_or-drop p d (i - p) 0) ∙ ap (λ (k : ℕ). get_or (v ∷ drop p d) k 0) (sym e);
-        }
-
-  pub moved_all : (words : List ℕ) (carried i n : ℕ) → Moved words carried i → i ≡ n + 1 → p ≤ n → words ≡ take p d ++ v ∷ drop p (take n d) ++ drop (n + 1) d
-  moved_all words carried i n h e g =
-      let a : i - p ≡ suc (n - p) = omega arith in
-      let b : p + suc (n - p) ≡ n + 1 = omega arith in
-      let c : p + (n - p) ≡ n = omega arith in
-      h.words_are ∙ rw (a, b, take_drop (n - p) p d, c)
+take_drop m p d = sym (drop-take p m d)
 
 -- a list with one part more, or one part changed, in place of the first n words
 module _ (words : List ℕ) (n : ℕ) (within : n ≤ length words) (p : ℕ) (es : List ℕ) where
   -- there is room for it
-  fits : (m : ℕ) → length es ≡ m → m ≤ length words → (Count m ≡ count_in es words) × (es ++ drop m words ≡ in_front es words)
+  fits : (m : ℕ) → length es ≡ m → m ≤ length words → (Some m ≡ count_in es words) × (es ++ drop m words ≡ in_front es words)
   fits m e h =
       let r : ltb (length words) (length es) ≡ false = le-ltb (length words) (length es) (omega arith) in
       (sym (rw (r, e)), sym (rw (r, e)))
 
-  pub front_changed : (x : ℕ) → p < n → es ≡ take p (take n words) ++ x ∷ drop (suc p) (take n words) → (Count n ≡ count_in es words) × (set words p x ≡ in_front es words)
+  pub front_changed : (x : ℕ) → p < n → es ≡ take p (take n words) ++ x ∷ drop (suc p) (take n words) → (Some n ≡ count_in es words) × (set words p x ≡ in_front es words)
   front_changed x h e =
       let k : p < length (take n words) = rw (length-take-le n words within) h in
       let f : es ≡ set (take n words) p x = e ∙ sym (set_split (take n words) p x k) in
@@ -176,12 +123,12 @@ module _ (words : List ℕ) (n : ℕ) (within : n ≤ length words) (p : ℕ) (e
         let b : p ≤ length (take n words) = rw a h in
         ap length e ∙ length-append (take p (take n words)) (v ∷ drop p (take n words)) ∙ rw (length-take-le p (take n words) b, length-drop, a) (omega arith)
 
-    pub front_full : n ≡ length words → (Full ≡ count_in es words) × (words ≡ in_front es words)
+    pub front_full : n ≡ length words → (None ≡ count_in es words) × (words ≡ in_front es words)
     front_full k =
         let r : ltb (length words) (length es) ≡ true = lt-ltb (length words) (length es) (omega (arith, longer)) in
         (sym (rw r), sym (rw r))
 
-    pub front_longer : n < length words → (Count (n + 1) ≡ count_in es words) × (take p words ++ v ∷ drop p (take n words) ++ drop (n + 1) words ≡ in_front es words)
+    pub front_longer : n < length words → (Some (n + 1) ≡ count_in es words) × (take p words ++ v ∷ drop p (take n words) ++ drop (n + 1) words ≡ in_front es words)
     front_longer k =
         let g = fits (n + 1) longer (omega arith) in
         (g.0, ap (λ (l : List ℕ). l ++ drop (n + 1) words) (ap (λ (l : List ℕ). l ++ v ∷ drop p (take n words)) (sym (take-take p n words h)) ∙ sym e) ∙ g.1)

@@ -14,7 +14,7 @@ use Rattle.definition.specs.Calls.{part_text}
 use Rattle.definition.proofs.UniverseLaws.{insert_ascending}
 use Rattle.parts.specs.Packed.{text_of}
 use Rattle.parts.specs.Entries.{quoted_too, index, enter, enter_all, note, note_all, texts_of, in_front, count_in, Held}
-use Rattle.parts.specs.declared.Entered.TheVariants.{Count, Full}
+use Rattle.std.specs.Prelude.{Some, None}
 use Rattle.parts.proofs.PackLaws.{quoted_part}
 
 pub length_texts : (facts query : Text) (ws : List ℕ) → length (texts_of facts query ws) ≡ length ws
@@ -120,18 +120,18 @@ module _ {old words ws : List ℕ} {n : ℕ} (h : Held old words ws n) where
 
 -- what an answer of the code says of the words
 module _ (words new es : List ℕ) (n : ℕ) (w : new ≡ in_front es words) where
-  pub held_front : Count n ≡ count_in es words → Held words new es n
+  pub held_front : Some n ≡ count_in es words → Held words new es n
   held_front c = go (ltb (length words) (length es)) refl w c
     where
-      go : (b : Bool) → ltb (length words) (length es) ≡ b → new ≡ cond b words (es ++ drop (length es) words) → Count n ≡ cond b Full (Count (length es)) → Held words new es n
+      go : (b : Bool) → ltb (length words) (length es) ≡ b → new ≡ cond b words (es ++ drop (length es) words) → Some n ≡ cond b None (Some (length es)) → Held words new es n
       go true e f g = let z : ◌≡◌ {A = ℕ} 0 1 = cc in absurd (omega arith)
       go false e f g =
           let k : n ≡ length es = cc in
           record { count = k; room = omega (arith, ltb-false (length words) (length es) e); is = rw k f }
 
-pub no_room : (words es : List ℕ) → Full ≡ count_in es words → length words < length es
+pub no_room : (words es : List ℕ) → None ≡ count_in es words → length words < length es
 no_room words es c = go (ltb (length words) (length es)) refl c
   where
-    go : (b : Bool) → ltb (length words) (length es) ≡ b → Full ≡ cond b Full (Count (length es)) → length words < length es
+    go : (b : Bool) → ltb (length words) (length es) ≡ b → None ≡ cond b None (Some (length es)) → length words < length es
     go true e g = ltb-true (length words) (length es) e
     go false e g = let z : ◌≡◌ {A = ℕ} 0 1 = cc in absurd (omega arith)

@@ -3,3 +3,4 @@ pub mod EntryLaws
 pub mod PackLaws
 pub mod HeldLaws
 pub mod PositionLaws
+pub mod InsertLaws

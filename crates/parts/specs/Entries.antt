@@ -1,9 +1,7 @@
 -- Lists of parts: those of the universe stand in byte order, and a tag of 1 says that the element is printed in quotes.
-use Rattle.std.specs.Prelude.{ℕ, ◌+◌, ◌≤◌, ◌≡◌, ◌&&◌, not, List, [], ◌∷◌, ◌++◌, map, ltb, eqb, length, drop, if◌then◌else◌}
+use Rattle.std.specs.Prelude.{ℕ, ◌+◌, ◌≤◌, ◌≡◌, ◌&&◌, not, List, [], ◌∷◌, ◌++◌, map, ltb, eqb, length, drop, if◌then◌else◌, Option, Some, None}
 use Rattle.definition.specs.Text.{Text, same, earlier, span}
 use Rattle.parts.specs.Packed.{tag_of, text_of}
-use Rattle.parts.specs.declared.Entered.{Entered}
-use Rattle.parts.specs.declared.Entered.TheVariants.{Count, Full}
 
 -- w, quoted if v is
 unfoldable pub quoted_too : ℕ → ℕ → ℕ
@@ -29,8 +27,8 @@ module _ (facts query : Text) where
 abbrev pub in_front : List ℕ → List ℕ → List ℕ
 in_front es words = if ltb (length words) (length es) then words else (es ++ drop (length es) words)
 
-abbrev pub count_in : List ℕ → List ℕ → Entered
-count_in es words = if ltb (length words) (length es) then Full else (Count (length es))
+abbrev pub count_in : List ℕ → List ℕ → Option ℕ
+count_in es words = if ltb (length words) (length es) then None else (Some (length es))
 
 module _ (facts query : Text) where
   -- the texts of a list of parts

@@ -7,7 +7,8 @@ ghost use Rattle.definition.specs.Facts.{Ascending};
 ghost use Rattle.parts.specs.Entries.{quoted_too, position, index, enter, in_front, count_in, texts_of};
 ghost use Rattle.parts.specs.Places.{entered_at, PlaceWithin};
 
-use texts::{Order, compare, same};
+use std::cmp::Ordering;
+use texts::{compare, same};
 
 // The number of a part of the facts (text 0) or of the query (text 1), with a tag.
 pub fn packed(text: usize, offset: usize, len: usize, tag: usize) -> usize
@@ -48,15 +49,12 @@ pub fn position_of<'a>(facts: &'a [u8], query: &'a [u8], parts: &[usize], t: &[u
     ensures value { result ≡ position facts.now query.now t.now parts.now }
     ensures within { result ≤ length parts.now }
 {
-    let mut k: usize = 0;
-    while k < parts.len() {
-        let w = parts[k];
-        if same(t, text_of(facts, query, w)) {
+    for (k, w) in parts.iter().enumerate() {
+        if same(t, text_of(facts, query, *w)) {
             return k;
         }
-        k += 1;
     }
-    k
+    parts.len()
 }
 
 // The index of the first of the parts that has the text of v; their number, if none has.
@@ -67,98 +65,78 @@ pub fn index_of<'a>(facts: &'a [u8], query: &'a [u8], parts: &[usize], v: usize)
     position_of(facts, query, parts, text_of(facts, query, v))
 }
 
-// Where a part stands in a sorted list, or where it belongs.
-#[derive(Clone, Copy)]
-pub enum Place {
-    Found(usize),
-    New(usize),
-}
-
-// The place of v among the parts, which stand in byte order.
-pub fn place_of<'a>(facts: &'a [u8], query: &'a [u8], parts: &[usize], v: usize) -> Place
+// Where v stands among the parts, which are in byte order, or where it belongs: as the library's `binary_search` answers.
+pub fn place_of<'a>(
+    facts: &'a [u8],
+    query: &'a [u8],
+    parts: &[usize],
+    v: usize,
+) -> Result<usize, usize>
     ensures value { enter facts.now query.now v parts.now ≡ entered_at v parts.now result }
     ensures within { PlaceWithin (length parts.now) result }
 {
     let text = text_of(facts, query, v);
-    let mut p: usize = 0;
-    while p < parts.len() {
-        let w = parts[p];
-        match compare(text, text_of(facts, query, w)) {
-            Order::Same => return Place::Found(p),
-            Order::Before => return Place::New(p),
-            Order::After => {
-                p += 1;
-            }
+    for (p, w) in parts.iter().enumerate() {
+        match compare(text, text_of(facts, query, *w)) {
+            Ordering::Equal => return Ok(p),
+            Ordering::Less => return Err(p),
+            Ordering::Greater => {}
         }
     }
-    Place::New(p)
+    Err(parts.len())
 }
 
 // The part w, quoted if v is.
+#[tactic(auto, unfolding(crate::specs::Entries::quoted_too))]
 fn quoted_too(v: usize, w: usize) -> usize
     ensures { result ≡ quoted_too v w }
 {
-    if v % 4 != 1 {
-        return w;
-    }
-    if w % 4 != 0 {
-        return w;
-    }
-    w + 1
+    if v % 4 == 1 && w % 4 == 0 { w + 1 } else { w }
 }
 
 // Puts v at the place p of the first n words.
-fn insert_at(words: &mut [usize], p: usize, n: usize, v: usize)
+pub fn insert_at<T: Copy>(words: &mut [T], p: usize, n: usize, v: T)
     requires { (p ≤ n) × (n < length words.old) }
     ensures { words.new ≡ (take p words.old ++ v ∷ drop p (take n words.old)) ++ drop (n + 1) words.old }
 {
-    let mut carried = v;
-    let mut i = p;
-    while i <= n {
-        let w = words[i];
-        words[i] = carried;
-        carried = w;
-        i += 1;
-    }
+    words[n] = v;
+    words[p..=n].rotate_right(1);
 }
 
-// How many parts a sorted list has with one more, or that there is no room for it.
-#[derive(Clone, Copy)]
-pub enum Entered {
-    Count(usize),
-    Full,
-}
-
-// Enters v at its place in the list of the first n words; where it is full, the words stay.
-pub fn enter_at(words: &mut [usize], n: usize, v: usize, place: Place) -> Entered
+// Enters v at its place in the list of the first n words, and answers how many it then has; where it is full, the words stay.
+pub fn enter_at(
+    words: &mut [usize],
+    n: usize,
+    v: usize,
+    place: Result<usize, usize>,
+) -> Option<usize>
     requires { (n ≤ length words.old) × PlaceWithin n place }
     ensures value { result ≡ count_in (entered_at v (take n words.old) place) words.old }
     ensures words { words.new ≡ in_front (entered_at v (take n words.old) place) words.old }
 {
     match place {
-        Place::Found(p) => {
-            let w = words[p];
-            words[p] = quoted_too(v, w);
-            Entered::Count(n)
+        Ok(p) => {
+            words[p] = quoted_too(v, words[p]);
+            Some(n)
         }
-        Place::New(p) => {
+        Err(p) => {
             if n == words.len() {
-                return Entered::Full;
+                return None;
             }
             insert_at(words, p, n, v);
-            Entered::Count(n + 1)
+            Some(n + 1)
         }
     }
 }
 
-// Enters v into the sorted list of the first n words; where it is full, the words stay.
+// Enters v into the sorted list of the first n words, and answers how many it then has; where it is full, the words stay.
 pub fn enter_part<'a>(
     facts: &'a [u8],
     query: &'a [u8],
     words: &mut [usize],
     n: usize,
     v: usize,
-) -> Entered
+) -> Option<usize>
     requires { n ≤ length words.old }
     ensures value { result ≡ count_in (enter facts.now query.now v (take n words.old)) words.old }
     ensures words { words.new ≡ in_front (enter facts.now query.now v (take n words.old)) words.old }
@@ -168,7 +146,12 @@ pub fn enter_part<'a>(
 }
 
 // As `place_of`, in few steps: each halves the list.
-pub fn find_place<'a>(facts: &'a [u8], query: &'a [u8], parts: &[usize], v: usize) -> Place
+pub fn find_place<'a>(
+    facts: &'a [u8],
+    query: &'a [u8],
+    parts: &[usize],
+    v: usize,
+) -> Result<usize, usize>
     requires { Ascending (texts_of facts.now query.now parts.now) }
     ensures value { enter facts.now query.now v parts.now ≡ entered_at v parts.now result }
     ensures within { PlaceWithin (length parts.now) result }
@@ -180,14 +163,14 @@ pub fn find_place<'a>(facts: &'a [u8], query: &'a [u8], parts: &[usize], v: usiz
         let p = low + (high - low) / 2;
         let w = parts[p];
         match compare(text, text_of(facts, query, w)) {
-            Order::Same => return Place::Found(p),
-            Order::Before => {
+            Ordering::Equal => return Ok(p),
+            Ordering::Less => {
                 high = p;
             }
-            Order::After => {
+            Ordering::Greater => {
                 low = p + 1;
             }
         }
     }
-    Place::New(low)
+    Err(low)
 }

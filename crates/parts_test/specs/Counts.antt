@@ -1,8 +1,6 @@
 -- The count of an answer as a number, for the checks.
-use Rattle.std.specs.Prelude.{ℕ}
-use Rattle.parts.specs.declared.Entered.{Entered}
-use Rattle.parts.specs.declared.Entered.TheVariants.{Count, Full}
+use Rattle.std.specs.Prelude.{ℕ, Option, Some, None}
 
-abbrev pub count_of : Entered → ℕ
-count_of (Count n) = n
-count_of Full = 0
+abbrev pub count_of : Option ℕ → ℕ
+count_of (Some n) = n
+count_of None = 0

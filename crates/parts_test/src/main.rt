@@ -10,7 +10,7 @@ ghost use Rattle.parts_test.specs.Texts.{facts, query, four, IsSet, count_after,
 
 use check::{expect, same};
 use hints::enter_hinted;
-use parts::{Entered, enter_part, index_of, packed, part, text_of};
+use parts::{enter_part, index_of, packed, part, text_of};
 
 // The number w has the text `text`.
 fn spells(w: usize, text: &[u8])
@@ -57,13 +57,10 @@ fn found() {
 }
 
 // How many parts there are; 0 where there is no room.
-fn count(e: Entered) -> usize
+fn count(e: Option<usize>) -> usize
     ensures { result ≡ count_of e }
 {
-    match e {
-        Entered::Count(n) => n,
-        Entered::Full => 0,
-    }
+    e.unwrap_or(0)
 }
 
 // Enters v into the first two words, whose texts are looked at from the first on, or, where no hint is known yet, by halves; how many parts there are then.

@@ -11,6 +11,7 @@ use lib.Dec.{T, leb, eqb, eqb→eq, eqb_refl}
 use lib.ListN.{length, drop, get_or, length-drop}
 use lib.Seq.{drop-cons}
 use borrow.Author.Tests.{le-leb, lt-leb}
+use Rattle.std.specs.List.{list_any}
 use Rattle.definition.specs.Text.{Text, ascii, some_of, starts}
 use Rattle.definition.specs.Pattern.{Range, range, add, no_class, listed, is_close, is_some}
 use Rattle.patterns.specs.Ends.{is_listed, to_close_at}
@@ -47,23 +48,10 @@ starts_byte k (x ∷ xs) zero z = and_true (eqb k x) ∙ eqb_sym k x
 starts_byte k (x ∷ xs) (suc i) z = starts_byte k xs i z
 
 -- one of some bytes
-pub among_none : (b : ℕ) (l : Text) (i : ℕ) → length l ≤ i → some_of (eqb b) (drop i l) ≡ false
+pub among_is : (b : ℕ) (l : Text) → list_any (λ (x : ℕ). eqb x b) l ≡ some_of (eqb b) l
 unfolding some_of
-among_none b [] zero h = refl
-among_none b [] (suc i) h = refl
-among_none b (x ∷ l) zero h = absurd (not-suc-le-zero h)
-among_none b (x ∷ l) (suc i) h = among_none b l i (le_of_suc-le-suc h)
-
-among_at : (b : ℕ) (l : Text) (i : ℕ) → i < length l → some_of (eqb b) (drop i l) ≡ eqb b (get_or l i 0) || some_of (eqb b) (drop (suc i) l)
-unfolding some_of
-among_at b l i h = ap (some_of (eqb b)) (drop-cons l i 0 h)
-
-pub among_hit : (b : ℕ) (l : Text) (i : ℕ) → i < length l → get_or l i 0 ≡ b → some_of (eqb b) (drop i l) ≡ true
-among_hit b l i h e = among_at b l i h ∙ ap (λ c. c || some_of (eqb b) (drop (suc i) l)) (eqb_true b (get_or l i 0) (sym e))
-
-pub among_miss : (b : ℕ) (l : Text) (i : ℕ) → i < length l → (get_or l i 0 ≡ b → ⊥) → some_of (eqb b) (drop i l) ≡ some_of (eqb b) (drop (i + 1) l)
-among_miss b l i h e =
-    among_at b l i h ∙ ap (λ c. c || some_of (eqb b) (drop (suc i) l)) (eqb_false b (get_or l i 0) (λ q. e (sym q))) ∙ ap (λ k. some_of (eqb b) (drop k l)) (sym (add-one i))
+among_is b [] = refl
+among_is b (x ∷ l) = ap (λ c. c || list_any (λ (y : ℕ). eqb y b) l) (eqb_sym x b) ∙ ap (λ c. eqb b x || c) (among_is b l)
 
 -- no `[:`, `[.`, `[=`
 pub class_none : (t : Text) (i : ℕ) → length t ≤ i → no_class (drop i t) ≡ true

@@ -3,7 +3,7 @@ use mathlib.Core.Path.{◌≡◌, refl, sym, ap, ◌∙◌, subst}
 use mathlib.Core.Bool.{Bool, true, false, ◌&&◌, ◌||◌, not, cond}
 use mathlib.Core.List.{List, [], ◌∷◌}
 use mathlib.Core.Option.{Option, some, none}
-use Prim.Native.Nat.{ℕ, suc, ◌+◌, ◌-◌, ◌*◌, ◌≤◌, ◌<◌}
+use Prim.Native.Nat.{ℕ, suc, ◌+◌, ◌-◌, ◌≤◌, ◌<◌}
 use native.Mathlib.Numerals.{add-one, add-two, add-three, add-four}
 use native.Mathlib.Omega.{arith}
 use lib.Dec.{T, leb, eqb, leb→le, eqb→eq}
@@ -13,12 +13,12 @@ use borrow.Author.Tests.{le-leb}
 use Rattle.definition.specs.Text.{Text, ascii, some_of, starts, span}
 use Rattle.definition.specs.Pattern.{Range, Pattern, atom, Reading, read, wrong, cut, uncut, onto, repeated_by, from_to, is_character, is_close, no_class, listed, to_close, set_of, set_read, read_set, read_count, read_repeat, read_ordinary, ends_branch, rule, is_some}
 use Rattle.patterns.specs.Ends.{ends, simple_at, is_listed, to_close_at}
-use Rattle.patterns.specs.declared.Next.TheVariants.{At, Wrong}
+use Rattle.std.specs.Prelude.{Some, None}
 use Rattle.patterns.proofs.ByteLaws.{eqb_sym, eqb_true, eqb_false, starts_byte}
 
 -- the rest from i on begins at i
-pub back_at : (s : Text) (i : ℕ) → i ≤ length s → At i ≡ At (length s - length (drop i s))
-back_at s i h = ap At (let e = length-drop i s in omega arith)
+pub back_at : (s : Text) (i : ℕ) → i ≤ length s → Some i ≡ Some (length s - length (drop i s))
+back_at s i h = ap (λ (k : ℕ). Some k) (let e = length-drop i s in omega arith)
 
 pub cons_at : (s : Text) (i : ℕ) → i < length s → drop i s ≡ get_or s i 0 ∷ drop (i + 1) s
 cons_at s i h = drop-cons s i 0 h ∙ ap (λ k. get_or s i 0 ∷ drop k s) (sym (add-one i))
@@ -43,7 +43,7 @@ four s i h =
     (drop-cons s (suc i) 0 (omega arith) ∙ ap (λ x. get_or s (suc i) 0 ∷ x)
     (drop-cons s (suc (suc i)) 0 (omega arith) ∙ ap (λ x. get_or s (suc (suc i)) 0 ∷ x) (drop-cons s (suc (suc (suc i))) 0 (omega arith)))))
 
-count_few : (m : ℕ) (p : Pattern) (xs : Text) → length xs < 4 → Wrong ≡ ends m (read_count p xs)
+count_few : (m : ℕ) (p : Pattern) (xs : Text) → length xs < 4 → None ≡ ends m (read_count p xs)
 unfolding read_count
 count_few m p [] h = refl
 count_few m p (a ∷ []) h = refl
@@ -51,7 +51,7 @@ count_few m p (a ∷ b ∷ []) h = refl
 count_few m p (a ∷ b ∷ c ∷ []) h = refl
 count_few m p (a ∷ b ∷ c ∷ d ∷ xs) h = absurd (omega arith)
 
-pub count_short : (s : Text) (i : ℕ) (p : Pattern) → length s < i + 4 → Wrong ≡ ends (length s) (read_count p (drop i s))
+pub count_short : (s : Text) (i : ℕ) (p : Pattern) → length s < i + 4 → None ≡ ends (length s) (read_count p (drop i s))
 count_short s i p h = count_few (length s) p (drop i s) (let e = length-drop i s in omega arith)
 
 five_false : (a b c d e : Bool) → (T a → T b → T c → T d → T e → ⊥) → a && b && c && d && e ≡ false
@@ -74,43 +74,43 @@ module _ (s : Text) (i : ℕ) (p : Pattern) (h : i + 4 ≤ length s) where
   counted = read (repeated_by (from_to (get_or s i 0 - 48) (get_or s (i + 2) 0 - 48)) p) (drop (i + 4) s)
 
   pub count_wrong : (48 ≤ get_or s i 0 → get_or s i 0 ≤ get_or s (i + 2) 0 → get_or s (i + 2) 0 ≤ 56 → get_or s (i + 1) 0 ≡ 44 → get_or s (i + 3) 0 ≡ 125 → ⊥)
-      → Wrong ≡ ends (length s) (read_count p (drop i s))
+      → None ≡ ends (length s) (read_count p (drop i s))
   count_wrong f =
       let no : passes ≡ false = five_false (leb 48 (get_or s i 0)) (leb (get_or s i 0) (get_or s (i + 2) 0)) (leb (get_or s (i + 2) 0) 56) (eqb (get_or s (i + 1) 0) 44) (eqb (get_or s (i + 3) 0) 125)
       (λ a b c d e. f (leb→le 48 (get_or s i 0) a) (leb→le (get_or s i 0) (get_or s (i + 2) 0) b) (leb→le (get_or s (i + 2) 0) 56 c) (eqb→eq (get_or s (i + 1) 0) 44 d) (eqb→eq (get_or s (i + 3) 0) 125 e)) in
       sym (ap (ends (length s)) (count_at ∙ by_false counted wrong passes no))
 
   pub count_right : 48 ≤ get_or s i 0 → get_or s i 0 ≤ get_or s (i + 2) 0 → get_or s (i + 2) 0 ≤ 56 → get_or s (i + 1) 0 ≡ 44 → get_or s (i + 3) 0 ≡ 125
-      → At (i + 4) ≡ ends (length s) (read_count p (drop i s))
+      → Some (i + 4) ≡ ends (length s) (read_count p (drop i s))
   count_right a b c d e =
       let yes_all : passes ≡ true = rw (le-leb 48 (get_or s i 0) a, le-leb (get_or s i 0) (get_or s (i + 2) 0) b, le-leb (get_or s (i + 2) 0) 56 c, eqb_true (get_or s (i + 1) 0) 44 d, eqb_true (get_or s (i + 3) 0) 125 e) in
       back_at s (i + 4) h ∙ sym (ap (ends (length s)) (count_at ∙ by_true counted wrong passes yes_all))
 
 -- a repeat sign
-pub repeat_none : (s : Text) (i : ℕ) (p : Pattern) → i ≤ length s → length s ≤ i → At i ≡ ends (length s) (read_repeat p (drop i s))
+pub repeat_none : (s : Text) (i : ℕ) (p : Pattern) → i ≤ length s → length s ≤ i → Some i ≡ ends (length s) (read_repeat p (drop i s))
 unfolding read_repeat
-repeat_none s i p h l = ap At (omega arith) ∙ sym (ap (λ x. ends (length s) (read_repeat p x)) (drop_of_length-le s l))
+repeat_none s i p h l = ap (λ (k : ℕ). Some k) (omega arith) ∙ sym (ap (λ x. ends (length s) (read_repeat p x)) (drop_of_length-le s l))
 
 module _ (s : Text) (i : ℕ) (p : Pattern) (h : i < length s) where
   repeat_at : read_repeat p (drop i s) ≡ read_repeat p (get_or s i 0 ∷ drop (i + 1) s)
   repeat_at = ap (read_repeat p) (cons_at s i h)
 
-  pub repeat_sign : some_of (eqb (get_or s i 0)) (ascii "*+?") ≡ true → At (i + 1) ≡ ends (length s) (read_repeat p (drop i s))
+  pub repeat_sign : some_of (eqb (get_or s i 0)) (ascii "*+?") ≡ true → Some (i + 1) ≡ ends (length s) (read_repeat p (drop i s))
   repeat_sign e = back_at s (i + 1) (omega arith) ∙ sym (ap (ends (length s)) repeat_at ∙ go (eqb (get_or s i 0) 42) refl (eqb (get_or s i 0) 43) refl (eqb (get_or s i 0) 63) refl e)
     where
       go : (a : Bool) → eqb (get_or s i 0) 42 ≡ a → (b : Bool) → eqb (get_or s i 0) 43 ≡ b → (c : Bool) → eqb (get_or s i 0) 63 ≡ c → some_of (eqb (get_or s i 0)) (ascii "*+?") ≡ true
-          → ends (length s) (read_repeat p (get_or s i 0 ∷ drop (i + 1) s)) ≡ At (length s - length (drop (i + 1) s))
+          → ends (length s) (read_repeat p (get_or s i 0 ∷ drop (i + 1) s)) ≡ Some (length s - length (drop (i + 1) s))
       go true u b v c w e = unfold read_repeat in rw u
       go false u true v c w e = unfold read_repeat in rw (u, v)
       go false u false v true w e = unfold read_repeat in rw (u, v, w)
       go false u false v false w e = unfold some_of in (let z : ◌≡◌ {A = Bool} false true = rw (u, v, w) at e in absurd (subst T (sym z) tt))
 
-  pub repeat_plain : some_of (eqb (get_or s i 0)) (ascii "*+?") ≡ false → (get_or s i 0 ≡ 123 → ⊥) → At i ≡ ends (length s) (read_repeat p (drop i s))
-  repeat_plain e n = back_at s i (omega arith) ∙ ap (λ x. At (length s - length x)) (cons_at s i h)
+  pub repeat_plain : some_of (eqb (get_or s i 0)) (ascii "*+?") ≡ false → (get_or s i 0 ≡ 123 → ⊥) → Some i ≡ ends (length s) (read_repeat p (drop i s))
+  repeat_plain e n = back_at s i (omega arith) ∙ ap (λ x. Some (length s - length x)) (cons_at s i h)
       ∙ sym (ap (ends (length s)) repeat_at ∙ go (eqb (get_or s i 0) 42) refl (eqb (get_or s i 0) 43) refl (eqb (get_or s i 0) 63) refl (eqb_false (get_or s i 0) 123 n) e)
     where
       go : (a : Bool) → eqb (get_or s i 0) 42 ≡ a → (b : Bool) → eqb (get_or s i 0) 43 ≡ b → (c : Bool) → eqb (get_or s i 0) 63 ≡ c → eqb (get_or s i 0) 123 ≡ false → some_of (eqb (get_or s i 0)) (ascii "*+?") ≡ false
-          → ends (length s) (read_repeat p (get_or s i 0 ∷ drop (i + 1) s)) ≡ At (length s - length (get_or s i 0 ∷ drop (i + 1) s))
+          → ends (length s) (read_repeat p (get_or s i 0 ∷ drop (i + 1) s)) ≡ Some (length s - length (get_or s i 0 ∷ drop (i + 1) s))
       go true u b v c w n e = unfold some_of in apart (rw u at e)
       go false u true v c w n e = unfold some_of in apart (rw (u, v) at e)
       go false u false v true w n e = unfold some_of in apart (rw (u, v, w) at e)
@@ -135,7 +135,7 @@ branch_byte s i h = go (eqb (get_or s i 0) 124) (eqb (get_or s i 0) 41) (eqb_sym
     go false false u v = rw (u, v)
 
 -- an atom that is no group
-pub simple_none : (s : Text) (i : ℕ) → length s ≤ i → Wrong ≡ simple_at s i
+pub simple_none : (s : Text) (i : ℕ) → length s ≤ i → None ≡ simple_at s i
 unfolding simple_at rule
 simple_none s i l = sym (ap (λ x. ends (length s) (rule atom (λ k xs. wrong) x)) (drop_of_length-le s l))
 
@@ -144,31 +144,31 @@ module _ (s : Text) (i : ℕ) (h : i < length s) where
   unfolding simple_at
   simple_cons = ap (λ x. ends (length s) (rule atom (λ k xs. wrong) x)) (cons_at s i h)
 
-  pub simple_character : is_character (get_or s i 0) ≡ true → At (i + 1) ≡ simple_at s i
+  pub simple_character : is_character (get_or s i 0) ≡ true → Some (i + 1) ≡ simple_at s i
   unfolding rule
   simple_character e = back_at s (i + 1) (omega arith) ∙ sym (simple_cons ∙ rw e)
 
   simple_sign : (k : ℕ) → get_or s i 0 ≡ k → simple_at s i ≡ ends (length s) (rule atom (λ k xs. wrong) (k ∷ drop (i + 1) s))
   simple_sign k e = simple_cons ∙ ap (λ c. ends (length s) (rule atom (λ k xs. wrong) (c ∷ drop (i + 1) s))) e
 
-  pub simple_dot : get_or s i 0 ≡ 46 → At (i + 1) ≡ simple_at s i
+  pub simple_dot : get_or s i 0 ≡ 46 → Some (i + 1) ≡ simple_at s i
   unfolding rule is_character some_of
   simple_dot e = back_at s (i + 1) (omega arith) ∙ sym (simple_sign 46 e)
 
-  pub simple_ordinary : get_or s i 0 ≡ 92 → i + 1 < length s → At (i + 2) ≡ simple_at s i
+  pub simple_ordinary : get_or s i 0 ≡ 92 → i + 1 < length s → Some (i + 2) ≡ simple_at s i
   unfolding rule is_character some_of
   simple_ordinary e l =
-      back_at s (i + 2) (omega arith) ∙ sym (simple_sign 92 e ∙ ap (λ x. ends (length s) (read_ordinary x)) (cons_at s (i + 1) l) ∙ ap (λ k. At (length s - length (drop k s))) (next_but_one i))
+      back_at s (i + 2) (omega arith) ∙ sym (simple_sign 92 e ∙ ap (λ x. ends (length s) (read_ordinary x)) (cons_at s (i + 1) l) ∙ ap (λ k. Some (length s - length (drop k s))) (next_but_one i))
 
-  pub simple_trailing : get_or s i 0 ≡ 92 → length s ≤ i + 1 → Wrong ≡ simple_at s i
+  pub simple_trailing : get_or s i 0 ≡ 92 → length s ≤ i + 1 → None ≡ simple_at s i
   unfolding rule is_character some_of
   simple_trailing e l = sym (simple_sign 92 e ∙ ap (λ x. ends (length s) (read_ordinary x)) (drop_of_length-le s l))
 
-  pub simple_wrong : is_character (get_or s i 0) ≡ false → (get_or s i 0 ≡ 46 → ⊥) → (get_or s i 0 ≡ 92 → ⊥) → (get_or s i 0 ≡ 91 → ⊥) → Wrong ≡ simple_at s i
+  pub simple_wrong : is_character (get_or s i 0) ≡ false → (get_or s i 0 ≡ 46 → ⊥) → (get_or s i 0 ≡ 92 → ⊥) → (get_or s i 0 ≡ 91 → ⊥) → None ≡ simple_at s i
   unfolding rule
   simple_wrong c a b d = sym (simple_cons ∙ go (eqb (get_or s i 0) 40) refl)
     where
-      go : (x : Bool) → eqb (get_or s i 0) 40 ≡ x → ends (length s) (rule atom (λ k xs. wrong) (get_or s i 0 ∷ drop (i + 1) s)) ≡ Wrong
+      go : (x : Bool) → eqb (get_or s i 0) 40 ≡ x → ends (length s) (rule atom (λ k xs. wrong) (get_or s i 0 ∷ drop (i + 1) s)) ≡ None
       go true e = rw (c, eqb_false (get_or s i 0) 92 b, eqb_false (get_or s i 0) 46 a, eqb_false (get_or s i 0) 91 d, e)
       go false e = rw (c, eqb_false (get_or s i 0) 92 b, eqb_false (get_or s i 0) 46 a, eqb_false (get_or s i 0) 91 d, e)
 
@@ -206,7 +206,7 @@ cut_at (x ∷ xs) h = go (is_close x) h (cut_at xs)
     go true h ih = refl
     go false h ih = ap (onto x) (ih (omega arith))
 
-pub set_none : (s : Text) (i : ℕ) (c : Bool) → length s ≤ i → Wrong ≡ ends (length s) (read_set c (drop i s))
+pub set_none : (s : Text) (i : ℕ) (c : Bool) → length s ≤ i → None ≡ ends (length s) (read_set c (drop i s))
 unfolding read_set
 set_none s i c l = sym (ap (λ x. ends (length s) (read_set c x)) (drop_of_length-le s l))
 
@@ -215,7 +215,7 @@ module _ (s : Text) (i : ℕ) (c : Bool) (h : i < length s) where
   unfolding read_set
   set_cons = ap (read_set c) (cons_at s i h)
 
-  pub set_unclosed : to_close_at s (i + 1) ≡ length s → Wrong ≡ ends (length s) (read_set c (drop i s))
+  pub set_unclosed : to_close_at s (i + 1) ≡ length s → None ≡ ends (length s) (read_set c (drop i s))
   unfolding to_close_at
   set_unclosed e =
       let l = length-drop (i + 1) s in
@@ -238,22 +238,22 @@ module _ (s : Text) (i : ℕ) (c : Bool) (h : i < length s) where
         ∙ ap (λ x. cond (no_class x) (set_of c (listed x) (drop (suc n) (drop (i + 1) s))) wrong) inner
         ∙ ap (λ y. cond (no_class body) (set_of c (listed body) y) wrong) rest
 
-    pub set_class : no_class body ≡ false → Wrong ≡ ends (length s) (read_set c (drop i s))
+    pub set_class : no_class body ≡ false → None ≡ ends (length s) (read_set c (drop i s))
     set_class q = sym (ap (ends (length s)) (set_body ∙ by_false _ _ (no_class body) q))
 
-    of_listed : (o : Option (List Range)) → is_some o ≡ false → ends (length s) (set_of c o (drop (j + 1) s)) ≡ Wrong
+    of_listed : (o : Option (List Range)) → is_some o ≡ false → ends (length s) (set_of c o (drop (j + 1) s)) ≡ None
     of_listed none q = refl
     of_listed (some rs) q = apart q
 
-    to_listed : (o : Option (List Range)) → is_some o ≡ true → ends (length s) (set_of c o (drop (j + 1) s)) ≡ At (length s - length (drop (j + 1) s))
+    to_listed : (o : Option (List Range)) → is_some o ≡ true → ends (length s) (set_of c o (drop (j + 1) s)) ≡ Some (length s - length (drop (j + 1) s))
     to_listed none q = apart (sym q)
     to_listed (some rs) q = refl
 
-    pub set_unlisted : no_class body ≡ true → is_listed body ≡ false → Wrong ≡ ends (length s) (read_set c (drop i s))
+    pub set_unlisted : no_class body ≡ true → is_listed body ≡ false → None ≡ ends (length s) (read_set c (drop i s))
     unfolding is_listed
     set_unlisted q r = sym (ap (ends (length s)) (set_body ∙ by_true _ _ (no_class body) q) ∙ of_listed (listed body) r)
 
-    pub set_closed : no_class body ≡ true → is_listed body ≡ true → At (j + 1) ≡ ends (length s) (read_set c (drop i s))
+    pub set_closed : no_class body ≡ true → is_listed body ≡ true → Some (j + 1) ≡ ends (length s) (read_set c (drop i s))
     unfolding is_listed
     set_closed q r = back_at s (j + 1) (omega arith) ∙ sym (ap (ends (length s)) (set_body ∙ by_true _ _ (no_class body) q) ∙ to_listed (listed body) r)
 

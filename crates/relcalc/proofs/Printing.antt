@@ -13,9 +13,9 @@ use Rattle.definition.specs.Claim.{Shows, Ends}
 use Rattle.definition.specs.Calls.{run_meets, RunMeets}
 use Rattle.definition.specs.declared.Ending.{Ending}
 use Rattle.definition.specs.declared.Ending.TheVariants.{Done, Spent, Full}
+use Rattle.definition.specs.declared.Refusal.{Refusal}
 use Rattle.definition.specs.declared.Stopped.{Stopped}
-use Rattle.definition.specs.declared.Ran.{Ran}
-use Rattle.definition.specs.declared.Ran.TheVariants.{Ended, Refused}
+use Rattle.std.specs.Prelude.{Result, Ok, Err}
 use Rattle.definition.proofs.AcceptLaws.{ok_injective}
 use Rattle.page.specs.Closing.{LINE_BYTES, shown, Closes}
 use Rattle.page.proofs.Closings.{page_parts, line_within, line_closes}
@@ -33,15 +33,15 @@ module _ (budget : ℕ) (store : List ℕ) (buffer : Text) (store' : List ℕ) (
       go Spent q = shows_within (e.at_spent q)
       go Full q = shows_within (e.at_full q).3
 
-  answer_within : (x : Answer Accepted) (a : Ran) → run_meets x budget store buffer a store' buffer' → shown a ≤ length buffer'
-  answer_within x (Refused q) h = omega arith
-  answer_within (ok w) (Ended s) h = let e = ends_within h.demand_3.ends in omega (arith, ap (λ (r : Stopped). r.written) (ok_injective h.answer))
-  answer_within (refused row place) (Ended s) h = let z : ◌≡◌ {A = ℕ} 0 1 = cc h.answer in absurd (omega arith)
+  answer_within : (x : Answer Accepted) (a : Result Stopped Refusal) → run_meets x budget store buffer a store' buffer' → shown a ≤ length buffer'
+  answer_within x (Err q) h = omega arith
+  answer_within (ok w) (Ok s) h = let e = ends_within h.demand_3.ends in omega (arith, ap (λ (r : Stopped). r.written) (ok_injective h.answer))
+  answer_within (refused row place) (Ok s) h = let z : ◌≡◌ {A = ℕ} 0 1 = cc h.answer in absurd (omega arith)
 
-  run_within : {limits : Limits} {facts query : Text} {a : Ran} → RunMeets limits facts query budget store buffer a store' buffer' → shown a ≤ length buffer'
+  run_within : {limits : Limits} {facts query : Text} {a : Result Stopped Refusal} → RunMeets limits facts query budget store buffer a store' buffer' → shown a ≤ length buffer'
   run_within {limits} {facts} {query} {a} h = answer_within (accept_store limits facts query (length store)) a h.meets
 
-pub prints : {facts query : Text} {store : List ℕ} {output line : Text} {a : Ran} {n k : ℕ} {store' : List ℕ} {output' line' : Text}
+pub prints : {facts query : Text} {store : List ℕ} {output line : Text} {a : Result Stopped Refusal} {n k : ℕ} {store' : List ℕ} {output' line' : Text}
     → RunMeets document_01 facts query BUDGET store output a store' output' → LINE_BYTES ≤ length line → n ≡ shown a → Closes a line k line'
     → Prints facts query store output line (record { output = n; line = k }) store' output' line'
 prints {facts} {query} {store} {output} {line} {a} {n} {k} {store'} {output'} {line'} m h e p =

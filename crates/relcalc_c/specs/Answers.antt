@@ -1,12 +1,12 @@
 -- What the five calls answer to hosts: each the fields of an answer that meets its definition.
-use Rattle.std.specs.Prelude.{ℕ, ◌≡◌, List}
+use Rattle.std.specs.Prelude.{ℕ, ◌≡◌, List, Result}
 use Rattle.definition.specs.Text.{Text}
 use Rattle.definition.specs.Limits.{document_01}
 use Rattle.definition.specs.Calls.{CheckMeets, RunMeets, CountsMeet, ChainMeets, JoinMeets}
+use Rattle.definition.specs.declared.Refusal.{Refusal}
 use Rattle.definition.specs.declared.Checked.{Checked}
 use Rattle.definition.specs.declared.RunAnswer.{RunAnswer}
-use Rattle.definition.specs.declared.Chained.{Chained}
-use Rattle.definition.specs.declared.Joined.{Joined}
+use Rattle.definition.specs.declared.RefusedJoin.{RefusedJoin}
 use Rattle.fields.specs.declared.CChecked.{CChecked}
 use Rattle.fields.specs.declared.CRan.{CRan}
 use Rattle.fields.specs.declared.CChained.{CChained}
@@ -25,11 +25,11 @@ pub record RunAnswers (facts query : Text) (budget : ℕ) (store : List ℕ) (ou
   pub fields : r ≡ ran_fields answer
 
 pub record ChainAnswers (facts name first second : Text) (buffer : List ℕ) (r : CChained) (buffer' : List ℕ) : Type 0 where
-  pub answer : Chained
+  pub answer : Result ℕ Refusal
   pub meets : ChainMeets document_01 facts name first second buffer answer buffer'
   pub fields : r ≡ chained_fields answer
 
 pub record JoinAnswers (first second output : Text) (r : CJoined) (output' : Text) : Type 0 where
-  pub answer : Joined
+  pub answer : Result ℕ RefusedJoin
   pub meets : JoinMeets document_01 first second output answer output'
   pub fields : r ≡ joined_fields answer

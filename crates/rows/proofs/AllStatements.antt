@@ -8,7 +8,7 @@ use native.Mathlib.Numerals.{add-one}
 use borrow.Author.Tests.{eq-eqb, ne_eqb}
 use lib.ListN.{length, get_or, drop, length-append, drop_of_length-le}
 use lib.Seq.{drop-cons}
-use Rattle.definition.specs.Answer.{Answer, ok, refused, number, place, ◌>>◌}
+use Rattle.definition.specs.Answer.{Answer, ok, refused, ◌>>◌}
 use Rattle.definition.specs.Syntax.{Program, end, assign, print, test, while, for, block}
 use Rattle.definition.specs.Syntax as Syntax
 use Rattle.definition.specs.Names.{Use, statement_rows, program_rows}
@@ -23,15 +23,17 @@ use Rattle.words.specs.Parts as Parts
 use Rattle.words.proofs.Sizes.{length_leaves, length_flat, length_items, length_program}
 use Rattle.words.proofs.Places.{has_append, has_all, has_cut}
 use Rattle.words.proofs.StatementParts.{parts_program}
-use Rattle.rows.specs.declared.Ruled.{Ruled}
-use Rattle.rows.specs.declared.Ruled.TheVariants.{Fine, Refused}
-use Rattle.rows.specs.declared.Turn.{Turn}
-use Rattle.rows.specs.declared.Turn.TheVariants.{On, Stop}
-use Rattle.rows.specs.Statements.{meets, Setting, vs, Stated, assigned, printed, tested, ranged, Rows, none, then, turned, next, Near}
+use Rattle.std.specs.Prelude.{Result, Ok, Err}
+use Rattle.rows.specs.Statements.{meets, Setting, vs, Stated, assigned, printed, tested, ranged, Rows, none, then, turned}
 
 then_assoc : (x a b : Answer (Unit {0})) → ◌>>◌ (◌>>◌ x a) b ≡ ◌>>◌ x (◌>>◌ a b)
 then_assoc (ok u) a b = refl
 then_assoc (refused r p) a b = refl
+
+-- on after a statement at k
+abbrev pub next : Result (Unit {0}) Refusal → ℕ → Result ℕ Refusal
+next (Ok done) k = Ok (k + 1)
+next (Err q) k = Err q
 
 module _ (words ids known : List ℕ) (S : Setting words ids known) where
   abbrev R : List Part → Answer (Unit {0}) → Type 0
@@ -103,11 +105,11 @@ module _ (words ids known : List ℕ) (S : Setting words ids known) where
     turn_between rest n m r = let q : parts (drop k words) s k ≡ parts (drop (k + 1) words) (k + 1) (k + 1) = parts_at ∙ rw (ne_eqb c 2 n, eq-eqb c 1 m) refl in rw q at r
 
     -- a statement's own word: its rows come first
-    ruled : (r : Ruled) (x rest : Answer (Unit {0})) → meets r x → R (parts (drop (k + 1) words) (k + 1) (k + 1)) rest → turned words ids known S k (◌>>◌ x rest) (next r k)
-    ruled Fine x rest m q = rw m q
-    ruled (Refused p) x rest m q = rw m refl
+    ruled : (r : Result (Unit {0}) Refusal) (x rest : Answer (Unit {0})) → meets r x → R (parts (drop (k + 1) words) (k + 1) (k + 1)) rest → turned words ids known S k (◌>>◌ x rest) (next r k)
+    ruled (Ok done) x rest m q = rw m q
+    ruled (Err p) x rest m q = rw m refl
 
-    inverted : (r : Ruled) {l : List Part} (rest : Answer (Unit {0})) → R l rest → l ≡ part s k ∷ parts (drop (k + 1) words) (k + 1) (k + 1) →
+    inverted : (r : Result (Unit {0}) Refusal) {l : List Part} (rest : Answer (Unit {0})) → R l rest → l ≡ part s k ∷ parts (drop (k + 1) words) (k + 1) (k + 1) →
         ((i : ℕ) (us : List Use) (es : List Syntax.Expression) (right : Bool) → Stated words ids known S s k i us es right → meets r (statement_rows (vs words ids known S) i us es right)) → turned words ids known S k rest (next r k)
     inverted r rest none e f = absurd (let z : ◌≡◌ {A = ℕ} 0 1 = omega (arith, ap length e) in omega arith)
     inverted r rest (then {s = s₀} {k = k₀} {i} {us} {es} {right} {ps} {a} st q) e f =
@@ -117,7 +119,7 @@ module _ (words ids known : List ℕ) (S : Setting words ids known) where
         let ep : ps ≡ parts (drop (k + 1) words) (k + 1) (k + 1) = cc in
         ruled r (statement_rows (vs words ids known S) i us es right) a (f i us es right (rw (← es₀, ← ek₀) st)) (rw ep at q)
 
-    pub turn_own : (r : Ruled) (rest : Answer (Unit {0})) → c ≡ 2 → R (parts (drop k words) s k) rest →
+    pub turn_own : (r : Result (Unit {0}) Refusal) (rest : Answer (Unit {0})) → c ≡ 2 → R (parts (drop k words) s k) rest →
         ((i : ℕ) (us : List Use) (es : List Syntax.Expression) (right : Bool) → Stated words ids known S s k i us es right → meets r (statement_rows (vs words ids known S) i us es right)) → turned words ids known S k rest (next r k)
     turn_own r rest e q f = inverted r rest q (parts_at ∙ rw (eq-eqb c 2 e) refl) f
 
@@ -131,17 +133,3 @@ module _ (words ids known : List ℕ) (S : Setting words ids known) where
 
       ended : (ws : List ℕ) → ws ≡ [] → R (parts ws s k) rest → rest ≡ ok tt
       ended ws e r = finished (parts ws s k) rest r (rw e refl)
-
-  -- what a turn left
-  pub went_on : (k n : ℕ) (total : Answer (Unit {0})) (t : Turn) → t ≡ On n → turned words ids known S k total t → R (parts (drop (k + 1) words) n (k + 1)) total
-  went_on k n total t e h = rw e at h
-
-  pub stopped_at : (k : ℕ) (q : Refusal) (total : Answer (Unit {0})) (t : Turn) → t ≡ Stop q → turned words ids known S k total t → total ≡ refused (number q) (place q)
-  stopped_at k q total t e h = rw e at h
-
-pub near_next : (r : Ruled) (k : ℕ) → Near k (next r k)
-near_next Fine k = omega arith
-near_next (Refused q) k = tt
-
-pub near_on : (k n : ℕ) (t : Turn) → t ≡ On n → Near k t → n ≤ k + 1
-near_on k n t e h = rw e at h

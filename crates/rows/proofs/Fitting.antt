@@ -21,7 +21,7 @@ use Rattle.words.specs.Tokens.{OwnName, OwnTerm, OwnTerms, OwnExpression, OwnIte
 use Rattle.words.proofs.FieldLaws.{kind_word, p_word, q_word}
 use Rattle.words.proofs.Sizes.{length_leaves, length_flat, length_item}
 use Rattle.digits.specs.Lists.{add, adds, pack}
-use Rattle.digits.specs.Packed.{plus, count, inside}
+use Rattle.digits.specs.Packed.{plus, count}
 use Rattle.digits.proofs.Listing.{Listed, listed_add}
 use Rattle.digits.proofs.Packing.{count_law, plus_law, inside_law}
 use Rattle.slots.specs.Slots.{takes}

@@ -1,9 +1,10 @@
 -- The statements of a program's words, and what the pass over them answers.
-use Rattle.std.specs.Prelude.{ℕ, ◌+◌, ◌<◌, ◌≤◌, ◌≡◌, Bool, ◌&&◌, List, [], ◌∷◌, ◌++◌, eqb, leb, length, drop}
+use Rattle.std.specs.Prelude.{ℕ, ◌+◌, ◌<◌, ◌≤◌, ◌≡◌, Bool, ◌&&◌, List, [], ◌∷◌, ◌++◌, eqb, leb, length, drop, Result, Ok, Err}
 use Rattle.definition.specs.Text.{Text, all_of, gather}
 use Rattle.definition.specs.Limits.{PRINTED_ATTRIBUTES}
 use Rattle.definition.specs.Token.{Token}
 use Rattle.definition.specs.Syntax.{Term, Expression, Item}
+use Rattle.definition.specs.declared.Refusal.{Refusal}
 use Rattle.definition.specs.Answer.{Answer, ok, refused, number, place, ◌>>◌}
 use Rattle.definition.specs.Names.{Kinds, variables, Use, attribute_only, in_terms, in_expression, in_item, attributes, free, subset, item_expressions, statement_rows}
 use Rattle.words.specs.Fields.{word, RELATION_NAME, ATTRIBUTE, BIND, RANGE, ASSIGN, TEST, PRINT}
@@ -14,15 +15,11 @@ use Rattle.words.specs.Parts.{Part, part, parts}
 use Rattle.intern.specs.Entries.{Stand}
 use Rattle.kinds.specs.Resolved.{Stands}
 use Rattle.words.specs.Standing.{Has}
-use Rattle.rows.specs.declared.Turn.{Turn}
-use Rattle.rows.specs.declared.Turn.TheVariants.{On, Stop}
-use Rattle.rows.specs.declared.Ruled.{Ruled}
-use Rattle.rows.specs.declared.Ruled.TheVariants.{Fine, Refused}
 
 -- the answer of the code is the definition's
-abbrev pub meets : Ruled → Answer (Unit {0}) → Type 0
-meets Fine a = a ≡ ok tt
-meets (Refused q) a = a ≡ refused (number q) (place q)
+abbrev pub meets : Result (Unit {0}) Refusal → Answer (Unit {0}) → Type 0
+meets (Ok done) a = a ≡ ok done
+meets (Err q) a = a ≡ refused (number q) (place q)
 
 -- what the passes before have left: numbers of names and what is known of them
 pub record Setting (words ids known : List ℕ) : Type 0 where
@@ -62,16 +59,11 @@ module _ (words ids known : List ℕ) (S : Setting words ids known) where
         → Rows (part s k ∷ ps) (◌>>◌ (statement_rows vs i us es right) a)
 
   -- after a word at k, where the open part began at s: what is left of the answer
-  abbrev pub turned : ℕ → Answer (Unit {0}) → Turn → Type 0
-  turned k rest (On n) = Rows (parts (drop (k + 1) words) n (k + 1)) rest
-  turned k rest (Stop q) = rest ≡ refused (number q) (place q)
-
--- on after a statement at k
-abbrev pub next : Ruled → ℕ → Turn
-next Fine k = On (k + 1)
-next (Refused q) k = Stop q
+  abbrev pub turned : ℕ → Answer (Unit {0}) → Result ℕ Refusal → Type 0
+  turned k rest (Ok n) = Rows (parts (drop (k + 1) words) n (k + 1)) rest
+  turned k rest (Err q) = rest ≡ refused (number q) (place q)
 
 -- the next part begins no later than the next word
-abbrev pub Near : ℕ → Turn → Type 0
-Near k (On n) = n ≤ k + 1
-Near k (Stop q) = Unit {0}
+abbrev pub Near : ℕ → Result ℕ Refusal → Type 0
+Near k (Ok n) = n ≤ k + 1
+Near k (Err q) = Unit {0}

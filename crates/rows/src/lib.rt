@@ -1,7 +1,7 @@
 // Rows 13 and 12 of each statement, in the order of the text.
 #![tactic(auto)]
 
-ghost use Rattle.std.specs.Prelude.{◌≡◌, List, Bool, ℕ, ◌+◌, ◌-◌, ◌≤◌, ◌<◌, length, get_or, drop};
+ghost use Rattle.std.specs.Prelude.{◌≡◌, List, Bool, ℕ, ◌+◌, ◌-◌, ◌≤◌, ◌<◌, length, drop};
 ghost use Rattle.definition.specs.Answer.{Answer};
 ghost use Rattle.definition.specs.Syntax.{Program, Expression};
 ghost use Rattle.definition.specs.Names.{Use, variables, statement_rows, program_rows};
@@ -11,25 +11,11 @@ ghost use Rattle.words.specs.Parts.{ends, parts};
 ghost use Rattle.slots.specs.Slots.{digit_at, closure_count};
 ghost use Rattle.free.specs.Words.{at, Small};
 ghost use Rattle.rows.specs.Tests.{fits, all_fit, left_from, same_digits, own_fits, too_much};
-ghost use Rattle.rows.specs.Statements.{meets, Setting, vs, Stated, Rows, turned, next, Near};
+ghost use Rattle.rows.specs.Statements.{meets, Setting, vs, Stated, Rows, turned, Near};
 
 use definition::Refusal;
 use slots::Found;
 use words::{word_at, word_before};
-
-// Whether statements keep the limits, or why they are refused.
-#[derive(Clone, Copy)]
-pub enum Ruled {
-    Fine,
-    Refused(Refusal),
-}
-
-// Where the next open part begins, or why a statement is refused.
-#[derive(Clone, Copy)]
-pub enum Turn {
-    On(usize),
-    Stop(Refusal),
-}
 
 // "TC and TCFAST two, a printed expression at most 3", and so what # counts: the word w at j.
 fn fits(fr: &[u64], j: usize, w: u64) -> bool
@@ -49,12 +35,10 @@ fn all_fit(part: &[u64], fr: &[u64], s: usize) -> bool
     requires { s + length part.now < 65536 }
     ensures { result ≡ all_fit (at fr.now) part.now s }
 {
-    let mut i: usize = 0;
-    while i < part.len() {
-        if !fits(fr, s + i, part[i]) {
+    for (i, &w) in part.iter().enumerate() {
+        if !fits(fr, s + i, w) {
             return false;
         }
-        i += 1;
     }
     true
 }
@@ -65,10 +49,8 @@ fn left(words: &[u64], f: Found, ids: &[u64], i: usize, n: usize) -> u64
     ensures { (result ≡ left_from (at words.now) (digit_at f ids.now) i n 0) × (result < 4096) }
 {
     let mut a: u64 = 0;
-    let mut j: usize = 0;
-    while j < n {
+    for j in 0..n {
         a = digits::add(a, slots::digit_at(f, ids, word_at(words, i + j)));
-        j += 1;
     }
     a
 }
@@ -115,7 +97,14 @@ fn too_much(f: Found, part: &[u64]) -> bool
 }
 
 // The statement whose words begin at s and whose own word is at k: 13, then 12.
-fn statement(words: &[u64], ids: &[u64], known: &[u64], fr: &mut [u64], s: usize, k: usize) -> Ruled
+fn statement(
+    words: &[u64],
+    ids: &[u64],
+    known: &[u64],
+    fr: &mut [u64],
+    s: usize,
+    k: usize,
+) -> Result<(), Refusal>
     requires s_le_k { (s ≤ k) × ((k < length words.now) × ((length words.now ≤ length fr.old) × (length words.now < 65536))) }
     requires small_2 { Small fr.old }
     ensures rows { (S : Setting words.now ids.now known.now) (i : ℕ) (us : List Use) (es : List Expression) (right : Bool) → Stated words.now ids.now known.now S s k i us es right → meets result (statement_rows (vs words.now ids.now known.now S) i us es right) }
@@ -125,16 +114,16 @@ fn statement(words: &[u64], ids: &[u64], known: &[u64], fr: &mut [u64], s: usize
     let place = (w / 1099511627776 % 65536) as usize;
     let f = slots::collect(&words[s..k], ids, known);
     if too_much(f, &words[s..k]) {
-        return Ruled::Refused(Refusal::TooMuch(place));
+        return Err(Refusal::TooMuch(place));
     }
     free::fill(words, f, ids, fr, s, k);
     if !all_fit(&words[s..k], fr, s) {
-        return Ruled::Refused(Refusal::FreeAttributes(place));
+        return Err(Refusal::FreeAttributes(place));
     }
     if !own_fits(words, f, ids, fr, k, w) {
-        return Ruled::Refused(Refusal::FreeAttributes(place));
+        return Err(Refusal::FreeAttributes(place));
     }
-    Ruled::Fine
+    Ok(())
 }
 
 // What a word of a kind ends: 2 a statement, 1 what belongs to none, 0 nothing.
@@ -153,19 +142,15 @@ fn ends(c: u64) -> u64
     }
 }
 
-// On after a statement at k, unless it is refused.
-fn after(r: Ruled, k: usize) -> Turn
-    requires { k < 65536 }
-    ensures { result ≡ next r k }
-{
-    match r {
-        Ruled::Fine => Turn::On(k + 1),
-        Ruled::Refused(q) => Turn::Stop(q),
-    }
-}
-
-// The word at k, where the open part began at s.
-fn step(words: &[u64], ids: &[u64], known: &[u64], fr: &mut [u64], s: usize, k: usize) -> Turn
+// The word at k, where the open part began at s: where the next one begins, or why the statement is refused.
+fn step(
+    words: &[u64],
+    ids: &[u64],
+    known: &[u64],
+    fr: &mut [u64],
+    s: usize,
+    k: usize,
+) -> Result<usize, Refusal>
     requires s_le_k { (s ≤ k) × ((k < length words.now) × ((length words.now ≤ length fr.old) × (length words.now < 65536))) }
     requires small_2 { Small fr.old }
     ensures rows { (S : Setting words.now ids.now known.now) (rest : Answer (Unit {0})) → Rows words.now ids.now known.now S (parts (drop k words.now) s k) rest → turned words.now ids.now known.now S k rest result }
@@ -173,33 +158,29 @@ fn step(words: &[u64], ids: &[u64], known: &[u64], fr: &mut [u64], s: usize, k: 
 {
     let c = ends(words[k] % 256);
     if c == 2 {
-        return after(statement(words, ids, known, fr, s, k), k);
+        statement(words, ids, known, fr, s, k)?;
+        return Ok(k + 1);
     }
     if c == 1 {
-        return Turn::On(k + 1);
+        return Ok(k + 1);
     }
-    Turn::On(s)
+    Ok(s)
 }
 
 // "13 then 12 by statement".
-pub fn program_rows(words: &[u64], ids: &[u64], known: &[u64], fr: &mut [u64]) -> Ruled
+pub fn program_rows(
+    words: &[u64],
+    ids: &[u64],
+    known: &[u64],
+    fr: &mut [u64],
+) -> Result<(), Refusal>
     requires words_in_bounds { (length words.now ≤ length fr.old) × (length words.now < 65536) }
     requires small { Small fr.old }
     ensures { (S : Setting words.now ids.now known.now) (p : Program) → OwnProgram S.ts p → words.now ≡ flat_program p 0 → meets result (program_rows (variables S.kinds) p) }
 {
     let mut s: usize = 0;
-    let mut k: usize = 0;
-    while k < words.len() {
-        let t = step(words, ids, known, fr, s, k);
-        match t {
-            Turn::On(n) => {
-                s = n;
-            }
-            Turn::Stop(q) => {
-                return Ruled::Refused(q);
-            }
-        }
-        k += 1;
+    for k in 0..words.len() {
+        s = step(words, ids, known, fr, s, k)?;
     }
-    Ruled::Fine
+    Ok(())
 }

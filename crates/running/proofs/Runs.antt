@@ -11,7 +11,7 @@ use Rattle.definition.specs.Assignment.{loaded}
 use Rattle.definition.specs.Claim.{store_image}
 use Rattle.definition.specs.Calls.{RunMeets}
 use Rattle.definition.specs.declared.Stopped.{Stopped}
-use Rattle.definition.specs.declared.Ran.TheVariants.{Ended}
+use Rattle.std.specs.Prelude.{Ok}
 use Rattle.definition.proofs.CallLaws.{run_stopped}
 use Rattle.lines.specs.Lines.{Texts}
 use Rattle.lines.proofs.LineLaws.{Shows}
@@ -40,6 +40,6 @@ module _ (w : Accepted) (firsts : List ℕ) (scr : ℕ) (laid : Laid w firsts sc
   -- and where the loop stops from there on, the call `run` is met
   pub run_met : (limits : Limits) (facts query : Text) → accept limits facts query ≡ ok w → (store ss cs vs : List ℕ) → store ≡ store_image w (loaded w) store₀ → Sizes ss cs vs
       → (budget : ℕ) (r : Stopped) (c : Held) → Goes A u low budget (held 0 0 store buffer₀ ss cs vs) 0 r c
-      → RunMeets limits facts query budget store₀ buffer₀ (Ended r) c.store c.buffer
+      → RunMeets limits facts query budget store₀ buffer₀ (Ok r) c.store c.buffer
   run_met limits facts query a store ss cs vs e sizes budget r c g =
       run_stopped limits facts query budget store₀ buffer₀ w r c.store c.buffer a long (g.gone w store₀ buffer₀ size (starts store ss cs vs e sizes)).stop

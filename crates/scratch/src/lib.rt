@@ -8,10 +8,7 @@ ghost use Rattle.std.proofs.lemmas.List.Edits.{sets};
 pub fn clear(words: &mut [u64])
     ensures { words.new ≡ replicate (length words.old) 0 }
 {
-    let n = words.len();
-    for w in 0..n {
-        words[w] = 0;
-    }
+    words.fill(0);
 }
 
 // Moves the len words from d on to the front, and leaves zeros behind. The front is a relation's table: its words are lent from its offset
@@ -20,9 +17,6 @@ pub fn move_back(words: &mut [u64], len: usize, d: usize)
     requires { (len ≤ d) × (d + len ≤ length words.old) }
     ensures { words.new ≡ sets (sets words.old 0 (take len (drop d words.old))) d (replicate len 0) }
 {
-    for w in 0..len {
-        let j = d + w;
-        words[w] = words[j];
-    }
+    words.copy_within(d..d + len, 0);
     clear(&mut words[d..d + len]);
 }

@@ -1,4 +1,5 @@
 -- An item that begins with a quantity: alone, or beside a sign.
+use Rattle.std.specs.Prelude.{Ok, Err}
 use mathlib.Core.List.{List, [], ◌∷◌, ◌++◌}
 use mathlib.Core.Path.{◌≡◌, refl, sym, subst}
 use native.Mathlib.Omega.{arith}
@@ -18,9 +19,8 @@ use Rattle.simple.proofs.ItemLaws.{rows_words}
 use Rattle.simple.specs.Statements.{IsItem, ItemRoom, ItemClosed}
 use Rattle.terms.proofs.TokenLaws.{sign_first, not_sign, begins_one}
 use Rattle.terms.proofs.WriteLaws.{wrote_next, wrote_as}
-use Rattle.terms.specs.declared.Answer.{Answer}
-use Rattle.terms.specs.declared.Answer.TheVariants.{Read, Refused}
-use Rattle.terms.specs.Phrases.{kind_in, Wrote, parsed, far, IsQuantity}
+use Rattle.terms.specs.declared.ParseError.{ParseError}
+use Rattle.terms.specs.Phrases.{Answer, kind_in, Wrote, parsed, far, IsQuantity}
 use Rattle.terms.specs.Terms.{FirstOfQuantity}
 use Rattle.words.specs.Fields.{word, AMOUNT, ROWS, FIGURES}
 use Rattle.words.specs.Raw.{flat, flat_item}
@@ -30,14 +30,14 @@ unfolding says flat_item
 amount_words ts t n = refl
 
 module _ {ws : List ℕ} {p n d : ℕ} {A A₁ : List ℕ} {a : Answer} (u : FirstOfQuantity (kind_in ws p)) (h : IsQuantity ws p n d A A₁ a) where
-  pub amount_stops : {row q : ℕ} → a ≡ Refused row q → IsItem ws p n d A A₁ a
-  amount_stops {row} {q} i = subst (IsItem ws p n d A A₁) (sym i) (record {
+  pub amount_stops : {why : ParseError} → a ≡ Err why → IsItem ws p n d A A₁ (Err why)
+  amount_stops i = record {
     bounds = subst (far ws p n) i h.bounds;
     at = λ ts g. as_fails! (item_quantity_rule (begins_one ws p u)) (stop! (subst (parsed Quantity (λ ts t. says ts t) ws ts p n d A A₁) i (h.at ts g)));
-  })
+  }
 
-  module _ {q m : ℕ} (i : a ≡ Read q m) where
-    pub amount_alone : {A₂ : List ℕ} {r : Answer} → (41 ≤ kind_in ws q → kind_in ws q ≤ 46 → ⊥) → ItemClosed AMOUNT n 0 A₁ A₂ (Read q m) r → IsItem ws p n d A A₂ r
+  module _ {q m : ℕ} (i : a ≡ Ok (q, m)) where
+    pub amount_alone : {A₂ : List ℕ} {r : Answer} → (41 ≤ kind_in ws q → kind_in ws q ≤ 46 → ⊥) → ItemClosed AMOUNT n 0 A₁ A₂ (Ok (q, m)) r → IsItem ws p n d A A₂ r
     amount_alone {A₂} e j =
         let o = paid_of h i in
         subst (IsItem ws p n d A A₂) (sym j.0) (record {
@@ -53,7 +53,7 @@ module _ {ws : List ℕ} {p n d : ℕ} {A A₁ : List ℕ} {a : Answer} (u : Fir
     amount_compared l low high {A₂} A₃ {A₄} {b} c {r} v j k = by b v j
       where
         by : (b : Answer) → IsQuantity ws (q + 1) m d A₁ A₂ b → Joined FIGURES m (kind_in ws q - 41) A₂ A₃ b c → IsItem ws p n d A A₄ r
-        by (Read q' l') v j =
+        by (Ok (q', l')) v j =
             let o = paid_of h i in
             let o' = v.bounds in
             let w = subst (λ c. ItemClosed ROWS n 0 A₃ A₄ c r) j.0 k in
@@ -65,7 +65,7 @@ module _ {ws : List ℕ} {p n d : ℕ} {A A₁ : List ℕ} {a : Answer} (u : Fir
                 wrote = subst (Wrote A n (flat_item (says ts (Grammar.item_expression (Grammar.figures f.tree (sign_of (kind_in ws q)) f'.tree))) n) (l' + 1 + 1)) (sym w.1) (wrote_as (rows_words ts (Grammar.figures f.tree (sign_of (kind_in ws q)) f'.tree) n) (wrote_next (figures_wrote ts f.tree f'.tree low high f.wrote f'.wrote j.1) (word ROWS n 0 0)));
               };
             })
-        by (Refused row q') v j =
+        by (Err why) v j =
             let w = subst (λ c. ItemClosed ROWS n 0 A₃ A₄ c r) j k in
             subst (IsItem ws p n d A A₄) (sym w) (record {
               bounds = v.bounds;
@@ -77,5 +77,5 @@ pub compared_room : {ws : List ℕ} {p d m M i s : ℕ} {A A' : List ℕ} {b : A
 compared_room {ws} {p} {d} {m} {M} {i} {s} {A} {A'} {b} g B B' c v j hp hi hs hm = by b v j
   where
     by : (b : Answer) → IsQuantity ws p m d A A' b → Joined FIGURES m g B B' b c → ItemRoom M ROWS i s c
-    by (Read q l) v j = let o = v.bounds in subst (ItemRoom M ROWS i s) (sym j.0) (omega (arith, o.paid, o.within), (omega arith, (hi, hs)))
-    by (Refused row q) v j = subst (ItemRoom M ROWS i s) (sym j) tt
+    by (Ok (q, l)) v j = let o = v.bounds in subst (ItemRoom M ROWS i s) (sym j.0) (omega (arith, o.paid, o.within), (omega arith, (hi, hs)))
+    by (Err why) v j = subst (ItemRoom M ROWS i s) (sym j) tt

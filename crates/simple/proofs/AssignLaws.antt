@@ -1,4 +1,5 @@
 -- Assignments: their words, and how the grammar reads them.
+use Rattle.std.specs.Prelude.{Ok, Err}
 use mathlib.Core.List.{List, [], ◌∷◌, ◌++◌, append_assoc}
 use mathlib.Core.Path.{◌≡◌, refl, ap, sym, subst, ◌∙◌}
 use native.Mathlib.Omega.{arith}
@@ -17,15 +18,15 @@ use Rattle.simple.specs.Statements.{Places, Wording, IsStated, IsStatement, term
 use Rattle.terms.proofs.AtomLaws.{listed_of, unlisted_of}
 use Rattle.terms.proofs.TokenLaws.{kind_within, key_first, key_then, name_first, name_number, place_of, not_key}
 use Rattle.terms.proofs.WriteLaws.{wrote_none, wrote_then, wrote_next, wrote_before, wrote_as}
-use Rattle.terms.specs.declared.Answer.{Answer}
-use Rattle.terms.specs.declared.Answer.TheVariants.{Read, Refused}
-use Rattle.terms.specs.Phrases.{kind_in, seen, Wrote, far, IsExpression}
+use Rattle.terms.specs.declared.ParseError.{ParseError}
+use Rattle.terms.specs.declared.ParseError.TheVariants.{NoProgram}
+use Rattle.terms.specs.Phrases.{Answer, row_of, token_of, kind_in, seen, Wrote, far, IsExpression}
 use Rattle.terms.specs.Terms.{leaf_in, Listed, IsListed}
 use Rattle.words.proofs.Sizes.{length_leaves}
 use Rattle.words.specs.Fields.{word, ATTRIBUTE, TERM, RELATION_NAME, TRUTH, ASSIGN}
 use Rattle.words.specs.Raw.{leaves, flat, number, flat_program}
 
-pub unstated : {x : Nonterminal} {w : Wording x} {s : ℕ} {ws : List ℕ} {p n d row q : ℕ} {A B : List ℕ} → q ≤ length ws → Fails d (phrase x ∷ []) (drop p (seen ws)) row (drop q (seen ws)) → IsStated x w s ws p n d A B (Refused row q)
+pub unstated : {x : Nonterminal} {w : Wording x} {s : ℕ} {ws : List ℕ} {p n d : ℕ} {why : ParseError} {A B : List ℕ} → token_of why ≤ length ws → Fails d (phrase x ∷ []) (drop p (seen ws)) (row_of why) (drop (token_of why) (seen ws)) → IsStated x w s ws p n d A B (Err why)
 unstated h f = record { bounds = h; at = λ ts i. f }
 
 -- the terms once more, one at a time
@@ -70,20 +71,20 @@ module _ (ws : List ℕ) (p n d : ℕ) (A : List ℕ) (name : kind_in ws p ≡ 4
   inside : p < length ws
   inside = kind_within ws p (omega arith)
 
-  pub assign_open : (kind_in ws (p + 1) ≡ LPAREN → ⊥) → {B : List ℕ} → IsStatement ws p n d A B (Refused 10 (p + 1))
+  pub assign_open : (kind_in ws (p + 1) ≡ LPAREN → ⊥) → {B : List ℕ} → IsStatement ws p n d A B (Err (NoProgram (p + 1)))
   assign_open e = let i = inside in unstated (omega arith) (fail! left_side_rule l (name_first ws p name) (stop! (no_token! (not_key ws (p + 1) e))))
 
   module _ {A₁ : List ℕ} {a : Answer} (e : kind_in ws (p + 1) ≡ LPAREN) (h : IsListed ws ATTRIBUTE (p + 2) (n + 1) A A₁ a) where
     opened : Reads d (fixed LPAREN ∷ []) (drop (p + 1) (seen ws)) (tt, tt) (drop (p + 2) (seen ws))
     opened = token! l (key_then ws (p + 1) (p + 2) (omega arith) e (omega arith))
 
-    pub assign_unlisted : {row q : ℕ} → a ≡ Refused row q → {B : List ℕ} → IsStatement ws p n d A B a
-    assign_unlisted {row} {q} i =
+    pub assign_unlisted : {why : ParseError} → a ≡ Err why → {B : List ℕ} → IsStatement ws p n d A B (Err why)
+    assign_unlisted i =
         let u = unlisted_of h i in
         let f = lefts_fail d l u.unclosed u.broken in
-        rw (i, u.ten) (unstated u.within (fail! left_side_rule l (name_first ws p name) (opened ▹ record { is = λ s g. f.is (after_left ∷ s) g })))
+        unstated u.within (rw u.ten (fail! left_side_rule l (name_first ws p name) (opened ▹ record { is = λ s g. f.is (after_left ∷ s) g })))
 
-    module _ {q m w : ℕ} (i : a ≡ Read q m) (named : w ≡ word RELATION_NAME p (m - n - 1) 0) where
+    module _ {q m w : ℕ} (i : a ≡ Ok (q, m)) (named : w ≡ word RELATION_NAME p (m - n - 1) 0) where
       u : Listed ws ATTRIBUTE (p + 2) (n + 1) A A₁ q m
       u = listed_of h i
 
@@ -96,10 +97,10 @@ module _ (ws : List ℕ) (p n d : ℕ) (A : List ℕ) (name : kind_in ws p ≡ 4
       first : Wrote A n (word RELATION_NAME p (m - n - 1) 0 ∷ u.words) m (set A₁ n w)
       first = wrote_as (ap (λ v. v ∷ u.words) named) (wrote_before u.wrote w)
 
-      pub assign_unended : (kind_in ws q ≡ SEMICOLON → ⊥) → (kind_in ws q ≡ BECOMES → ⊥) → {B : List ℕ} → IsStatement ws p n d A B (Refused 10 q)
+      pub assign_unended : (kind_in ws q ≡ SEMICOLON → ⊥) → (kind_in ws q ≡ BECOMES → ⊥) → {B : List ℕ} → IsStatement ws p n d A B (Err (NoProgram q))
       assign_unended f g = unstated u.within (fail! left_side_rule l (name_first ws p name) (opened ▹ r.reads d l ▹ token! l r.closed ▹ stop! (no_left_end! (not_key ws q g) (not_key ws q f))))
 
-      pub assign_alone : {B : List ℕ} {l' : ℕ} → kind_in ws q ≡ SEMICOLON → l' ≡ m + (m - n - 1) + 2 → Wrote (set A₁ n w) m (asserted ws p n m) l' B → IsStatement ws p n d A B (Read (q + 1) l')
+      pub assign_alone : {B : List ℕ} {l' : ℕ} → kind_in ws q ≡ SEMICOLON → l' ≡ m + (m - n - 1) + 2 → Wrote (set A₁ n w) m (asserted ws p n m) l' B → IsStatement ws p n d A B (Ok (q + 1, l'))
       assign_alone {B} {l'} f x v =
           let o = kind_within ws q (omega arith) in
           record {
@@ -115,7 +116,7 @@ module _ (ws : List ℕ) (p n d : ℕ) (A : List ℕ) (name : kind_in ws p ≡ 4
       assign_ends {A₂} {A₃} {b} {t} f v j = by b t v j
         where
           by : (b t : Answer) → IsExpression ws (q + 1) m d (set A₁ n w) A₂ b → Finished ws p n m A₂ A₃ b t → IsStatement ws p n d A A₃ t
-          by (Read q' l') t v (semicolon k x) =
+          by (Ok (q', l')) t v (semicolon k x) =
               let o = v.bounds in
               let o' = kind_within ws q' (omega arith) in
               record {
@@ -126,11 +127,11 @@ module _ (ws : List ℕ) (p n d : ℕ) (A : List ℕ) (name : kind_in ws p ≡ 4
                   wrote = subst (Wrote A n (flat_program (says ts (Grammar.assignment p r.tree c.tree) p end) n) (l' + 1)) (sym x) (wrote_as (ap (λ t. ((word RELATION_NAME p (m - n - 1) 0 ∷ u.words) ++ flat (says ts c.tree) m) ++ (word ASSIGN n (m - n - 1) t ∷ [])) (sym (place_of g p inside)) ∙ assign_words ts p n (m - n - 1) m r.tree c.tree u.words (name_number g p name) (r.said ts g) many (omega (arith, u.more))) (wrote_next (wrote_then first c.wrote) (word ASSIGN n (m - n - 1) (at_of (get_or ws p 0)))));
                 };
               }
-          by (Read q' l') t v (no_semicolon k) = record {
+          by (Ok (q', l')) t v (no_semicolon k) = record {
             bounds = v.bounds.within;
             at = λ ts g. fail! left_side_rule l (name_first ws p name) (opened ▹ r.reads d l ▹ token! l r.closed ▹ stop! (fail! becomes_rule l (key_first ws q f (omega arith)) ((v.at ts g).reads ▹ stop! (no_token! (not_key ws q' k)))));
           }
-          by (Refused row q') t v j = subst (IsStatement ws p n d A A₃) (sym j) (record {
+          by (Err why) t v j = subst (IsStatement ws p n d A A₃) (sym j) (record {
             bounds = v.bounds;
             at = λ ts g. fail! left_side_rule l (name_first ws p name) (opened ▹ r.reads d l ▹ token! l r.closed ▹ stop! (fail! becomes_rule l (key_first ws q f (omega arith)) (stop! (v.at ts g))));
           })
@@ -139,7 +140,7 @@ pub repeat_ends : {ws : List ℕ} {p m k j : ℕ} {A A' : List ℕ} → Repeated
 repeat_ends {ws} {p} {m} {k} {j} {A} {A'} f l = let e : j ≡ k = omega (arith, f.upto) in subst (λ i. Wrote A m (terms_in ws p i) (m + i) A') e f.wrote
 
 -- the end of an assignment
-pub finish_space : {ws : List ℕ} {M p n m q l : ℕ} {b : Answer} → FinishRoom ws M p n m b → b ≡ Read q l → FinishSpace ws M p n m l
+pub finish_space : {ws : List ℕ} {M p n m q l : ℕ} {b : Answer} → FinishRoom ws M p n m b → b ≡ Ok (q, l) → FinishSpace ws M p n m l
 finish_space {ws} {M} {p} {n} {m} h e = subst (FinishRoom ws M p n m) e h
 
 pub two_wrote : {A A₁ : List ℕ} {m l w v x y : ℕ} {xs : List ℕ} → Wrote A m xs l A₁ → w ≡ x → v ≡ y → Wrote A m (xs ++ (x ∷ y ∷ [])) (l + 2) (set (set A₁ l w) (l + 1) v)
@@ -151,5 +152,5 @@ pub finish_room : {ws : List ℕ} {M p n m q d : ℕ} {A A' : List ℕ} {b : Ans
 finish_room {ws} {M} {p} {n} {m} {q} {b = b} s i o k v hl hm = by b v.bounds
   where
     by : (b : Answer) → far ws (q + 1) m b → FinishRoom ws M p n m b
-    by (Read q' l) c = record { places = s; inside = i; order = o; body = omega (arith, c.more); room = omega (arith, c.paid, c.within); small = omega (arith, c.paid, c.within) }
-    by (Refused row q') c = tt
+    by (Ok (q', l)) c = record { places = s; inside = i; order = o; body = omega (arith, c.more); room = omega (arith, c.paid, c.within); small = omega (arith, c.paid, c.within) }
+    by (Err why) c = tt

@@ -1,4 +1,5 @@
 -- Items and PRINT: their words, and how the grammar reads them.
+use Rattle.std.specs.Prelude.{Ok, Err}
 use mathlib.Core.List.{List, [], ◌∷◌, ◌++◌, append_assoc, append-nil}
 use mathlib.Core.Path.{◌≡◌, refl, ap, sym, subst, ◌∙◌}
 use native.Mathlib.Omega.{arith}
@@ -19,9 +20,9 @@ use Rattle.simple.specs.Statements.{stated, Span, spans, IsStatement, IsItem, It
 use Rattle.terms.proofs.LeafLaws.{leaf_name, leaf_string, Leaf, a_name_leaf, a_string_leaf, any_leaf, which_leaf, leaf_within}
 use Rattle.terms.proofs.TokenLaws.{kind_within, key_first, key_then, name_first, string_first, sign_first, name_number, string_number, place_of, not_key, not_name, not_string, not_sign, begins_none}
 use Rattle.terms.proofs.WriteLaws.{wrote_one, wrote_then, wrote_next, wrote_as}
-use Rattle.terms.specs.declared.Answer.{Answer}
-use Rattle.terms.specs.declared.Answer.TheVariants.{Read, Refused}
-use Rattle.terms.specs.Phrases.{kind_in, seen, Holds, Wrote, Meaning, far, Parsed, IsExpression}
+use Rattle.terms.specs.declared.ParseError.{ParseError}
+use Rattle.terms.specs.declared.ParseError.TheVariants.{NoProgram}
+use Rattle.terms.specs.Phrases.{Answer, row_of, token_of, kind_in, seen, Holds, Wrote, Meaning, far, Parsed, IsExpression}
 use Rattle.terms.specs.Terms.{leaf_in, IsSign}
 use Rattle.words.proofs.Sizes.{length_item}
 use Rattle.words.specs.Fields as Fields
@@ -43,14 +44,14 @@ pub item_room : {x : Nonterminal} {e : Meaning x} {ws : List ℕ} {p n d M i s :
 item_room {ws = ws} {p} {n} {M = M} {i} {s} {b = b} k h hk hi hs hp hm = by b h.bounds
   where
     by : (b : Answer) → far ws p n b → ItemRoom M k i s b
-    by (Read q l) o = (omega (arith, o.paid, o.within), (hk, (hi, hs)))
-    by (Refused row q) o = tt
+    by (Ok (q, l)) o = (omega (arith, o.paid, o.within), (hk, (hi, hs)))
+    by (Err why) o = tt
 
 pub plain_item : {ws : List ℕ} {p n d : ℕ} {A A₁ A₂ : List ℕ} {a r : Answer} → Plainly ws p → IsExpression ws p n d A A₁ a → ItemClosed ROWS n 0 A₁ A₂ a r → IsItem ws p n d A A₂ r
 plain_item {ws} {p} {n} {d} {A} {A₁} {A₂} {a} {r} e h j = by a h j
   where
     by : (a : Answer) → IsExpression ws p n d A A₁ a → ItemClosed ROWS n 0 A₁ A₂ a r → IsItem ws p n d A A₂ r
-    by (Read q m) h j =
+    by (Ok (q, m)) h j =
         let o = h.bounds in
         subst (IsItem ws p n d A A₂) (sym j.0) (record {
           bounds = record { more = omega arith; ahead = omega arith; paid = omega arith; within = o.within };
@@ -60,7 +61,7 @@ plain_item {ws} {p} {n} {d} {A} {A₁} {A₂} {a} {r} e h j = by a h j
             wrote = subst (Wrote A n (flat_item (says ts (Grammar.item_expression f.tree)) n) (m + 1)) (sym j.1) (wrote_as (rows_words ts f.tree n) (wrote_next f.wrote (word ROWS n 0 0)));
           };
         })
-    by (Refused row q) h j = subst (IsItem ws p n d A A₂) (sym j) (record { bounds = h.bounds; at = λ ts g. as_fails! (plainly_stands ws p e) (h.at ts g) })
+    by (Err why) h j = subst (IsItem ws p n d A A₂) (sym j) (record { bounds = h.bounds; at = λ ts g. as_fails! (plainly_stands ws p e) (h.at ts g) })
 
 -- s alone
 name_words : (ws : List ℕ) (ts : List Token) (p n : ℕ) → Holds ws ts → kind_in ws p ≡ 47 → leaf_in ws p WORD ∷ word SAY n 0 0 ∷ [] ≡ flat_item (says ts (Grammar.item_word (Grammar.word_name p))) n
@@ -71,13 +72,13 @@ string_words : (ws : List ℕ) (ts : List Token) (p n : ℕ) → Holds ws ts →
 unfolding says flat_item
 string_words ws ts p n g e = ap (λ w. w ∷ word SAY n 0 0 ∷ []) (sym (leaf_string (kind_in ws p) p WORD e) ∙ ap (λ j. word (40 + WORD) j 0 0) (sym (string_number g p e)))
 
-pub say_item : (ws : List ℕ) (p n d : ℕ) (A : List ℕ) {w v : ℕ} → Alone ws p → d ≤ 32 → w ≡ leaf_in ws p WORD → v ≡ word SAY n 0 0 → IsItem ws p n d A (set (set A n w) (n + 1) v) (Read (p + 1) (n + 2))
+pub say_item : (ws : List ℕ) (p n d : ℕ) (A : List ℕ) {w v : ℕ} → Alone ws p → d ≤ 32 → w ≡ leaf_in ws p WORD → v ≡ word SAY n 0 0 → IsItem ws p n d A (set (set A n w) (n + 1) v) (Ok (p + 1, n + 2))
 say_item ws p n d A {w} {v} h l e f = by h
   where
     wrote : Wrote A n (leaf_in ws p WORD ∷ word SAY n 0 0 ∷ []) (n + 2) (set (set A n w) (n + 1) v)
     wrote = let i : n + 1 + 1 ≡ n + 2 = omega arith in subst (λ i. Wrote A n (leaf_in ws p WORD ∷ word SAY n 0 0 ∷ []) i (set (set A n w) (n + 1) v)) i (wrote_as (ap (λ w. w ∷ v ∷ []) e ∙ ap (λ v. leaf_in ws p WORD ∷ v ∷ []) f) (wrote_next (wrote_one A n w) v))
 
-    by : Alone ws p → IsItem ws p n d A (set (set A n w) (n + 1) v) (Read (p + 1) (n + 2))
+    by : Alone ws p → IsItem ws p n d A (set (set A n w) (n + 1) v) (Ok (p + 1, n + 2))
     by (a_name_alone a b c) = let i = kind_within ws p (omega arith) in record {
       bounds = record { more = omega arith; ahead = omega arith; paid = omega arith; within = omega arith };
       at = λ ts g. record { tree = Grammar.item_word (Grammar.word_name p); reads = item_name! l (name_first ws p a) (not_key ws (p + 1) b) (not_sign ws (p + 1) c); wrote = wrote_as (name_words ws ts p n g a) wrote };
@@ -92,7 +93,7 @@ endl_words : (ts : List Token) (n w : ℕ) → w ≡ word LINE_END 0 0 0 → w �
 unfolding says flat_item
 endl_words ts n w e = ap (λ w. w ∷ []) e
 
-pub endl_item : (ws : List ℕ) (p n d : ℕ) (A : List ℕ) {w : ℕ} → d ≤ 32 → kind_in ws p ≡ ENDL → w ≡ word LINE_END 0 0 0 → IsItem ws p n d A (set A n w) (Read (p + 1) (n + 1))
+pub endl_item : (ws : List ℕ) (p n d : ℕ) (A : List ℕ) {w : ℕ} → d ≤ 32 → kind_in ws p ≡ ENDL → w ≡ word LINE_END 0 0 0 → IsItem ws p n d A (set A n w) (Ok (p + 1, n + 1))
 endl_item ws p n d A {w} l e f = let i = kind_within ws p (omega arith) in record {
   bounds = record { more = omega arith; ahead = omega arith; paid = omega arith; within = omega arith };
   at = λ ts g. record { tree = Grammar.item_endl; reads = read! endl_rule l (key_first ws p e (omega arith)) done!; wrote = wrote_as (endl_words ts n w f) (wrote_one A n w) };
@@ -125,21 +126,21 @@ unfolding says flat_item leaves
 labelled_words ts u t n x e = ap (λ x. x ∷ (flat (says ts t) (n + 1) ++ (word ROWS n 1 0 ∷ []))) (sym e)
 
 module _ (ws : List ℕ) (p n d : ℕ) (A : List ℕ) (l : d ≤ 32) (e : kind_in ws p ≡ LBRACKET) where
-  pub label_missing : leaf_in ws (p + 1) WORD ≡ 0 → {B : List ℕ} → IsItem ws p n d A B (Refused 10 (p + 1))
+  pub label_missing : leaf_in ws (p + 1) WORD ≡ 0 → {B : List ℕ} → IsItem ws p n d A B (Err (NoProgram (p + 1)))
   label_missing f = let i = kind_within ws p (omega arith) in unstated (omega arith) (fail! labelled_rule l (key_first ws p e (omega arith)) (stop! (no_word! (no_left ws (p + 1) WORD (omega arith) f))))
 
   module _ (f : leaf_in ws (p + 1) WORD ≡ 0 → ⊥) where
     label : Reads d (phrase Word ∷ []) (drop (p + 1) (seen ws)) ((a_label ws (p + 1) f).tree, tt) (drop (p + 2) (seen ws))
     label = let i : p + 1 + 1 ≡ p + 2 = omega arith in subst (λ j. Reads d (phrase Word ∷ []) (drop (p + 1) (seen ws)) ((a_label ws (p + 1) f).tree, tt) (drop j (seen ws))) i ((a_label ws (p + 1) f).reads d l)
 
-    pub label_open : (kind_in ws (p + 2) ≡ RBRACKET → ⊥) → {B : List ℕ} → IsItem ws p n d A B (Refused 10 (p + 2))
+    pub label_open : (kind_in ws (p + 2) ≡ RBRACKET → ⊥) → {B : List ℕ} → IsItem ws p n d A B (Err (NoProgram (p + 2)))
     label_open h = let i = leaf_within ws (p + 1) WORD f in unstated (omega arith) (fail! labelled_rule l (key_first ws p e (omega arith)) (label ▹ stop! (no_token! (not_key ws (p + 2) h))))
 
     pub label_item : {w : ℕ} {A₁ A₂ : List ℕ} {a r : Answer} → kind_in ws (p + 2) ≡ RBRACKET → w ≡ leaf_in ws (p + 1) WORD → IsExpression ws (p + 3) (n + 1) d (set A n w) A₁ a → ItemClosed ROWS n 1 A₁ A₂ a r → IsItem ws p n d A A₂ r
     label_item {w} {A₁} {A₂} {a} {r} h i v j = by a v j
       where
         by : (a : Answer) → IsExpression ws (p + 3) (n + 1) d (set A n w) A₁ a → ItemClosed ROWS n 1 A₁ A₂ a r → IsItem ws p n d A A₂ r
-        by (Read q m) v j =
+        by (Ok (q, m)) v j =
             let o = v.bounds in
             subst (IsItem ws p n d A A₂) (sym j.0) (record {
               bounds = record { more = omega arith; ahead = omega arith; paid = omega arith; within = o.within };
@@ -149,7 +150,7 @@ module _ (ws : List ℕ) (p n d : ℕ) (A : List ℕ) (l : d ≤ 32) (e : kind_i
                 wrote = subst (Wrote A n (flat_item (says ts (Grammar.item_labelled (a_label ws (p + 1) f).tree c.tree)) n) (m + 1)) (sym j.1) (wrote_as (labelled_words ts (a_label ws (p + 1) f).tree c.tree n w ((a_label ws (p + 1) f).said ts g ∙ sym i)) (wrote_next (wrote_then (wrote_one A n w) c.wrote) (word ROWS n 1 0)));
               };
             })
-        by (Refused row q) v j = subst (IsItem ws p n d A A₂) (sym j) (record {
+        by (Err why) v j = subst (IsItem ws p n d A A₂) (sym j) (record {
           bounds = v.bounds;
           at = λ ts g. fail! labelled_rule l (key_first ws p e (omega arith)) (label ▹ token! l (key_then ws (p + 2) (p + 3) (omega arith) h (omega arith)) ▹ stop! (v.at ts g));
         })
@@ -183,8 +184,8 @@ pub record Printing (ws : List ℕ) (ts : List Token) (p n d : ℕ) (A A' : List
   pub wrote : Wrote A n sofar m A'
 
 abbrev pub printing : List ℕ → List Token → ℕ → ℕ → ℕ → List ℕ → List ℕ → Answer → Type 0
-printing ws ts p n d A A' (Read q m) = Printing ws ts p n d A A' q m
-printing ws ts p n d A A' (Refused row q) = Fails d (phrase Statement ∷ []) (drop p (seen ws)) row (drop q (seen ws))
+printing ws ts p n d A A' (Ok (q, m)) = Printing ws ts p n d A A' q m
+printing ws ts p n d A A' (Err why) = Fails d (phrase Statement ∷ []) (drop p (seen ws)) (row_of why) (drop (token_of why) (seen ws))
 
 pub record IsPrinting (ws : List ℕ) (p n d : ℕ) (A A' : List ℕ) (a : Answer) : Type 0 where
   pub bounds : spans ws 1 (p + 1) n a
@@ -196,7 +197,7 @@ module _ {ws : List ℕ} {p n d : ℕ} {A A₁ : List ℕ} (l : d ≤ 32) (e : k
   print_starts {a} h long = record { bounds = h.bounds; long = long; at = λ ts g. by ts a (h.at ts g) }
     where
       by : (ts : List Token) (a : Answer) → stated Item (λ ts t p n. flat_item (says ts t) n) ws ts (p + 1) n d A A₁ a → printing ws ts p n d A A₁ a
-      by ts (Read q m) f = record {
+      by ts (Ok (q, m)) f = record {
         first = f.tree;
         at = q;
         one = f.reads;
@@ -207,26 +208,26 @@ module _ {ws : List ℕ} {p n d : ℕ} {A A₁ : List ℕ} (l : d ≤ 32) (e : k
         said = λ b. item_then ts f.tree b n m f.wrote.many;
         wrote = f.wrote;
       }
-      by ts (Refused row q) f = fail! print_rule l (key_first ws p e (omega arith)) (stop! f)
+      by ts (Err why) f = fail! print_rule l (key_first ws p e (omega arith)) (stop! f)
 
   module _ {a : Answer} (h : IsPrinting ws p n d A A₁ a) where
-    pub print_stops : {row q : ℕ} → a ≡ Refused row q → IsStatement ws p n d A A₁ a
-    print_stops {row} {q} i = subst (IsStatement ws p n d A A₁) (sym i) (record { bounds = subst (spans ws 1 (p + 1) n) i h.bounds; at = λ ts g. subst (printing ws ts p n d A A₁) i (h.at ts g) })
+    pub print_stops : {why : ParseError} → a ≡ Err why → IsStatement ws p n d A A₁ (Err why)
+    print_stops i = record { bounds = subst (spans ws 1 (p + 1) n) i h.bounds; at = λ ts g. subst (printing ws ts p n d A A₁) i (h.at ts g) }
 
-    module _ {q m : ℕ} (i : a ≡ Read q m) where
+    module _ {q m : ℕ} (i : a ≡ Ok (q, m)) where
       pub print_span : Span ws 1 (p + 1) n q m
       print_span = subst (spans ws 1 (p + 1) n) i h.bounds
 
       got : (ts : List Token) → Holds ws ts → Printing ws ts p n d A A₁ q m
       got ts g = subst (printing ws ts p n d A A₁) i (h.at ts g)
 
-      pub print_unended : (kind_in ws q ≡ SEMICOLON → ⊥) → (kind_in ws q ≡ COMMA → ⊥) → {B : List ℕ} → IsStatement ws p n d A B (Refused 10 q)
+      pub print_unended : (kind_in ws q ≡ SEMICOLON → ⊥) → (kind_in ws q ≡ COMMA → ⊥) → {B : List ℕ} → IsStatement ws p n d A B (Err (NoProgram q))
       print_unended f c = record {
         bounds = print_span.within;
         at = λ ts g. let b = got ts g in fail! print_rule l (key_first ws p e (omega arith)) (b.one ▹ b.reads Grammar.end_items (drop q (seen ws)) (end_items! (not_key ws q c)) ▹ stop! (no_token! (not_key ws q f)));
       }
 
-      pub print_ends : {w v : ℕ} → kind_in ws q ≡ SEMICOLON → w ≡ word Fields.PRINT n 0 v → v ≡ at_of (get_or ws p 0) → IsStatement ws p n d A (set A₁ m w) (Read (q + 1) (m + 1))
+      pub print_ends : {w v : ℕ} → kind_in ws q ≡ SEMICOLON → w ≡ word Fields.PRINT n 0 v → v ≡ at_of (get_or ws p 0) → IsStatement ws p n d A (set A₁ m w) (Ok (q + 1, m + 1))
       print_ends {w} {v} f x y =
           let o = print_span in
           let k = kind_within ws q (omega arith) in
@@ -244,7 +245,7 @@ module _ {ws : List ℕ} {p n d : ℕ} {A A₁ : List ℕ} (l : d ≤ 32) (e : k
       print_on f {A₂} {b} v long = by b v
         where
           by : (b : Answer) → IsItem ws (q + 1) m d A₁ A₂ b → IsPrinting ws p n d A A₂ b
-          by (Read q' m') v =
+          by (Ok (q', m')) v =
               let o = print_span in
               let o' = v.bounds in
               record {
@@ -262,18 +263,14 @@ module _ {ws : List ℕ} {p n d : ℕ} {A A₁ : List ℕ} (l : d ≤ 32) (e : k
                   wrote = wrote_then b.wrote c.wrote;
                 };
               }
-          by (Refused row q') v = record {
+          by (Err why) v = record {
             long = long;
             bounds = v.bounds;
-            at = λ ts g. let b = got ts g in fail! print_rule l (key_first ws p e (omega arith)) (b.one ▹ stop! (b.fails row (drop q' (seen ws)) (fail! more_items_rule l (key_first ws q f (omega arith)) (stop! (v.at ts g)))));
+            at = λ ts g. let b = got ts g in fail! print_rule l (key_first ws p e (omega arith)) (b.one ▹ stop! (b.fails (row_of why) (drop (token_of why) (seen ws)) (fail! more_items_rule l (key_first ws q f (omega arith)) (stop! (v.at ts g)))));
           }
 
-pub item_less : (ws : List ℕ) (q m : ℕ) (a b : Answer) → a ≡ Read q m → q < length ws → spans ws 1 (q + 1) m b → left ws b < left ws a
-item_less ws q m a b i l v = subst (λ a. left ws b < left ws a) (sym i) (by b v)
-  where
-    by : (b : Answer) → spans ws 1 (q + 1) m b → left ws b < suc (length ws - q)
-    by (Read q' m') o = omega (arith, o.ahead, o.within)
-    by (Refused row q') o = omega arith
+pub item_span : {ws : List ℕ} {p n d q m : ℕ} {A A₁ : List ℕ} {a : Answer} → IsItem ws p n d A A₁ a → a ≡ Ok (q, m) → Span ws 1 p n q m
+item_span {ws} {p} {n} h i = subst (spans ws 1 p n) i h.bounds
 
 -- by the kind of the first token, and of the second
 pub name_call : {ws : List ℕ} {p k : ℕ} → Worded (kind_in ws p) k → k ≡ 47 → kind_in ws (p + 1) ≡ LPAREN → Plainly ws p

@@ -1,14 +1,13 @@
 -- What a function that reads a statement, a block or an item answers: the tree that the definition's reader has there, with its words.
-use Rattle.std.specs.Prelude.{List, [], ◌∷◌, ◌++◌, ◌≡◌, ℕ, zero, suc, ◌+◌, ◌-◌, ◌*◌, ◌≤◌, ◌<◌, length, drop, set, get_or}
+use Rattle.std.specs.Prelude.{Ok, Err, List, [], ◌∷◌, ◌++◌, ◌≡◌, ℕ, zero, suc, ◌+◌, ◌-◌, ◌*◌, ◌≤◌, ◌<◌, length, drop, set, get_or}
 use Rattle.definition.proofs.GrammarReads.{Reads, Fails}
 use Rattle.definition.specs.Grammar.{Nonterminal, Tree, Statement, Item}
 use Rattle.definition.specs.Reader.{phrase}
 use Rattle.definition.specs.Syntax.{says, end}
 use Rattle.definition.specs.Token.{Token, LPAREN, LBRACKET, SEMICOLON, ENDL}
 use Rattle.lexer.specs.Tokens.{at_of, NAME, STRING}
-use Rattle.terms.specs.declared.Answer.{Answer}
-use Rattle.terms.specs.declared.Answer.TheVariants.{Read, Refused}
-use Rattle.terms.specs.Phrases.{kind_in, seen, Holds, Wrote}
+use Rattle.terms.specs.declared.ParseError.TheVariants.{NoProgram}
+use Rattle.terms.specs.Phrases.{Answer, row_of, token_of, kind_in, seen, Holds, Wrote}
 use Rattle.terms.specs.Terms.{leaf_in, IsSign, NoQuantity}
 use Rattle.words.specs.Fields.{word, TERM, TRUTH, ASSIGN}
 use Rattle.words.specs.Raw.{flat_item, flat_program}
@@ -28,8 +27,8 @@ pub record Stated (x : Nonterminal) (w : Wording x) (ws : List ℕ) (ts : List T
   pub wrote : Wrote A n (w ts tree p n) m A'
 
 abbrev pub stated : (x : Nonterminal) → Wording x → List ℕ → List Token → ℕ → ℕ → ℕ → List ℕ → List ℕ → Answer → Type 0
-stated x w ws ts p n d A A' (Read q m) = Stated x w ws ts p n d A A' q m
-stated x w ws ts p n d A A' (Refused row q) = Fails d (phrase x ∷ []) (drop p (seen ws)) row (drop q (seen ws))
+stated x w ws ts p n d A A' (Ok (q, m)) = Stated x w ws ts p n d A A' q m
+stated x w ws ts p n d A A' (Err why) = Fails d (phrase x ∷ []) (drop p (seen ws)) (row_of why) (drop (token_of why) (seen ws))
 
 -- how far: each token that is read pays for a word, and s words are left to pay
 pub record Span (ws : List ℕ) (s p n q m : ℕ) : Type 0 where
@@ -39,8 +38,8 @@ pub record Span (ws : List ℕ) (s p n q m : ℕ) : Type 0 where
   pub within : q ≤ length ws
 
 abbrev pub spans : List ℕ → ℕ → ℕ → ℕ → Answer → Type 0
-spans ws s p n (Read q m) = Span ws s p n q m
-spans ws s p n (Refused row q) = q ≤ length ws
+spans ws s p n (Ok (q, m)) = Span ws s p n q m
+spans ws s p n (Err why) = token_of why ≤ length ws
 
 pub record IsStated (x : Nonterminal) (w : Wording x) (s : ℕ) (ws : List ℕ) (p n d : ℕ) (A A' : List ℕ) (r : Answer) : Type 0 where
   pub bounds : spans ws s p n r
@@ -60,12 +59,12 @@ terms_in ws p (suc k) = leaf_in ws p TERM ∷ terms_in ws (p + 2) k
 
 -- after an item's expression or quantity: the item's word, of kind k
 abbrev pub ItemRoom : ℕ → ℕ → ℕ → ℕ → Answer → Type 0
-ItemRoom M k n s (Read q m) = (m < M) × ((k < 256) × ((n < 65536) × (s < 65536)))
-ItemRoom M k n s (Refused row q) = Unit {0}
+ItemRoom M k n s (Ok (q, m)) = (m < M) × ((k < 256) × ((n < 65536) × (s < 65536)))
+ItemRoom M k n s (Err why) = Unit {0}
 
 abbrev pub ItemClosed : ℕ → ℕ → ℕ → List ℕ → List ℕ → Answer → Answer → Type 0
-ItemClosed k n s A A' (Read q m) r = (r ≡ Read q (m + 1)) × (A' ≡ set A m (word k n s 0))
-ItemClosed k n s A A' (Refused row q) r = r ≡ Refused row q
+ItemClosed k n s A A' (Ok (q, m)) r = (r ≡ Ok (q, m + 1)) × (A' ≡ set A m (word k n s 0))
+ItemClosed k n s A A' (Err why) r = r ≡ Err why
 
 -- room for the words of `R(t,..);` after its terms
 pub record Asserts (ws : List ℕ) (M p n m : ℕ) : Type 0 where
@@ -90,16 +89,16 @@ pub record FinishSpace (ws : List ℕ) (M p n m l : ℕ) : Type 0 where
   pub small : l < 65536
 
 abbrev pub FinishRoom : List ℕ → ℕ → ℕ → ℕ → ℕ → Answer → Type 0
-FinishRoom ws M p n m (Read q l) = FinishSpace ws M p n m l
-FinishRoom ws M p n m (Refused row q) = Unit {0}
+FinishRoom ws M p n m (Ok (q, l)) = FinishSpace ws M p n m l
+FinishRoom ws M p n m (Err why) = Unit {0}
 
 pub data Ended (ws : List ℕ) (p n m : ℕ) (A A' : List ℕ) (q l : ℕ) : Answer → Type 0 where
-  semicolon : kind_in ws q ≡ SEMICOLON → A' ≡ set A l (word ASSIGN n (m - n - 1) (at_of (get_or ws p 0))) → Ended ws p n m A A' q l (Read (q + 1) (l + 1))
-  no_semicolon : (kind_in ws q ≡ SEMICOLON → ⊥) → Ended ws p n m A A' q l (Refused 10 q)
+  semicolon : kind_in ws q ≡ SEMICOLON → A' ≡ set A l (word ASSIGN n (m - n - 1) (at_of (get_or ws p 0))) → Ended ws p n m A A' q l (Ok (q + 1, l + 1))
+  no_semicolon : (kind_in ws q ≡ SEMICOLON → ⊥) → Ended ws p n m A A' q l (Err (NoProgram q))
 
 abbrev pub Finished : List ℕ → ℕ → ℕ → ℕ → List ℕ → List ℕ → Answer → Answer → Type 0
-Finished ws p n m A A' (Read q l) r = Ended ws p n m A A' q l r
-Finished ws p n m A A' (Refused row q) r = r ≡ Refused row q
+Finished ws p n m A A' (Ok (q, l)) r = Ended ws p n m A A' q l r
+Finished ws p n m A A' (Err why) r = r ≡ Err why
 
 -- a token that begins an expression or a quantity, if it begins an item
 pub record Unworded (k : ℕ) : Type 0 where

@@ -8,7 +8,7 @@ ghost use Rattle.terms.specs.Phrases.{kind_in, Room, Wrote};
 ghost use Rattle.terms.specs.Terms.{FirstOfQuantity};
 
 use expressions::{comparison, join, quantity};
-use terms::{Answer, begins_quantity, kind_at, leaf_at, list};
+use terms::{Answer, ParseError, begins_quantity, kind_at, leaf_at, list};
 use words::pack;
 
 // The place of the token p in the text.
@@ -24,10 +24,8 @@ fn repeat(tokens: &[u64], words: &mut [u64], p: usize, m: usize, k: usize)
     requires { (p + 2 * k < 65536) × (m + k ≤ length words.old) }
     ensures { Wrote words.old m (terms_in tokens.now p k) (m + k) words.new }
 {
-    let mut j = 0;
-    while j < k {
+    for j in 0..k {
         words[m + j] = leaf_at(tokens, p + 2 * j, 3);
-        j += 1;
     }
 }
 
@@ -49,20 +47,17 @@ pub fn assignment(tokens: &[u64], words: &mut [u64], p: usize, n: usize, d: usiz
     ensures { IsStatement tokens.now p n d words.old words.new result }
 {
     if kind_at(tokens, p + 1) != 0 {
-        return Answer::Refused(10, p + 1);
+        return Err(ParseError::NoProgram(p + 1));
     }
-    let a = list(tokens, words, p + 2, n + 1, 2);
-    let Answer::Read(q, m) = a else {
-        return a;
-    };
+    let (q, m) = list(tokens, words, p + 2, n + 1, 2)?;
     words[n] = pack(1, p as u64, (m - n - 1) as u64, 0);
     let k = kind_at(tokens, q);
     if k == 7 {
         let l = assertion(tokens, words, p, n, m);
-        return Answer::Read(q + 1, l);
+        return Ok((q + 1, l));
     }
     if k != 8 {
-        return Answer::Refused(10, q);
+        return Err(ParseError::NoProgram(q));
     }
     let b = comparison(tokens, words, q + 1, m, d);
     finish(tokens, words, p, n, m, b)
@@ -73,14 +68,12 @@ fn finish(tokens: &[u64], words: &mut [u64], p: usize, n: usize, m: usize, b: An
     requires { FinishRoom tokens.now (length words.old) p n m b }
     ensures { Finished tokens.now p n m words.old words.new b result }
 {
-    let Answer::Read(q, l) = b else {
-        return b;
-    };
+    let (q, l) = b?;
     if kind_at(tokens, q) != 7 {
-        return Answer::Refused(10, q);
+        return Err(ParseError::NoProgram(q));
     }
     words[l] = pack(33, n as u64, (m - n - 1) as u64, place(tokens, p));
-    Answer::Read(q + 1, l + 1)
+    Ok((q + 1, l + 1))
 }
 
 // After an item's expression or quantity: the item's word, of the given kind, which has the place of the first word and the number of labels.
@@ -88,13 +81,9 @@ fn close_item(words: &mut [u64], kind: u64, n: usize, labels: u64, a: Answer) ->
     requires { ItemRoom (length words.old) kind n labels a }
     ensures { ItemClosed kind n labels words.old words.new a result }
 {
-    match a {
-        Answer::Read(q, m) => {
-            words[m] = pack(kind, n as u64, labels, 0);
-            Answer::Read(q, m + 1)
-        }
-        Answer::Refused(row, q) => Answer::Refused(row, q),
-    }
+    let (q, m) = a?;
+    words[m] = pack(kind, n as u64, labels, 0);
+    Ok((q, m + 1))
 }
 
 // An item that is an expression alone.
@@ -113,7 +102,7 @@ fn say(tokens: &[u64], words: &mut [u64], p: usize, n: usize, d: usize) -> Answe
 {
     words[n] = leaf_at(tokens, p, 4);
     words[n + 1] = pack(31, n as u64, 0, 0);
-    Answer::Read(p + 1, n + 2)
+    Ok((p + 1, n + 2))
 }
 
 // `[s]` at p and an expression.
@@ -123,10 +112,10 @@ fn labelled(tokens: &[u64], words: &mut [u64], p: usize, n: usize, d: usize) -> 
 {
     let w = leaf_at(tokens, p + 1, 4);
     if w == 0 {
-        return Answer::Refused(10, p + 1);
+        return Err(ParseError::NoProgram(p + 1));
     }
     if kind_at(tokens, p + 2) != 5 {
-        return Answer::Refused(10, p + 2);
+        return Err(ParseError::NoProgram(p + 2));
     }
     words[n] = w;
     let a = comparison(tokens, words, p + 3, n + 1, d);
@@ -158,16 +147,13 @@ fn quantity_item(tokens: &[u64], words: &mut [u64], p: usize, n: usize, d: usize
     requires { FirstOfQuantity (kind_in tokens.now p) × Room tokens.now (length words.old) p (n + 1) d }
     ensures { IsItem tokens.now p n d words.old words.new result }
 {
-    let a = quantity(tokens, words, p, n, d);
-    let Answer::Read(q, m) = a else {
-        return a;
-    };
+    let (q, m) = quantity(tokens, words, p, n, d)?;
     let g = kind_at(tokens, q);
     if g < 41 {
-        return close_item(words, 29, n, 0, a);
+        return close_item(words, 29, n, 0, Ok((q, m)));
     }
     if g > 46 {
-        return close_item(words, 29, n, 0, a);
+        return close_item(words, 29, n, 0, Ok((q, m)));
     }
     let b = quantity(tokens, words, q + 1, m, d);
     let c = join(words, 28, m, g - 41, b);
@@ -194,7 +180,7 @@ fn item(tokens: &[u64], words: &mut [u64], p: usize, n: usize, d: usize) -> Answ
         4 => labelled(tokens, words, p, n, d),
         18 => {
             words[n] = pack(32, 0, 0, 0);
-            Answer::Read(p + 1, n + 1)
+            Ok((p + 1, n + 1))
         }
         47 => word_item(tokens, words, p, n, d, 47),
         48 => word_item(tokens, words, p, n, d, 48),
@@ -207,19 +193,13 @@ pub fn print(tokens: &[u64], words: &mut [u64], p: usize, n: usize, d: usize) ->
     requires { (kind_in tokens.now p ≡ 30) × (Places tokens.now × Room tokens.now (length words.old) p n d) }
     ensures { IsStatement tokens.now p n d words.old words.new result }
 {
-    let mut a = item(tokens, words, p + 1, n, d);
-    loop {
-        let Answer::Read(q, m) = a else {
-            return a;
-        };
-        let k = kind_at(tokens, q);
-        if k == 7 {
-            words[m] = pack(37, n as u64, 0, place(tokens, p));
-            return Answer::Read(q + 1, m + 1);
-        }
-        if k != 6 {
-            return Answer::Refused(10, q);
-        }
-        a = item(tokens, words, q + 1, m, d);
+    let (mut q, mut m) = item(tokens, words, p + 1, n, d)?;
+    while kind_at(tokens, q) == 6 {
+        (q, m) = item(tokens, words, q + 1, m, d)?;
     }
+    if kind_at(tokens, q) != 7 {
+        return Err(ParseError::NoProgram(q));
+    }
+    words[m] = pack(37, n as u64, 0, place(tokens, p));
+    Ok((q + 1, m + 1))
 }

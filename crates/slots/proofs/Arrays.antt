@@ -9,7 +9,9 @@ use borrow.Author.Tests.{eq-eqb, ne_eqb}
 use lib.Dec.{eqb}
 use lib.ListN.{length, get_or, set, take, drop, drop_of_length-le, length-append, length-set}
 use lib.Seq.{drop-cons, get_or-take, length-take-le, take-suc-set}
-use Rattle.words.specs.Fields.{kind_of}
+use Rattle.std.specs.Prelude.{count_by}
+use Rattle.std.proofs.lemmas.List.Recursion.{is_count_by}
+use Rattle.words.specs.Fields.{kind_of, CLOSURE}
 use Rattle.digits.specs.Lists.{member}
 use Rattle.slots.specs.Slots.{takes, of_loop, add_name, add_word, names_of, Holds, fits, over, place_from, digit_at, one_closure, closure_count}
 use Rattle.slots.specs.declared.Found.{Found}
@@ -139,14 +141,11 @@ pub going_end : (ids known total part : List ℕ) (i : ℕ) (f : Found) → leng
 unfolding names_of
 going_end ids known total part i f h G = let e : total ≡ G.so_far = G.rest ∙ rw (drop_of_length-le part h) refl in rw e G.holds
 
--- closures counted from the front
-module _ (part : List ℕ) (n i : ℕ) (inv : closure_count part ≡ n + closure_count (drop i part)) where
-  pub count_on : (v : ℕ) → v ≡ one_closure (get_or part i 0) → i < length part → closure_count part ≡ n + v + closure_count (drop (i + 1) part)
-  unfolding closure_count
-  count_on v e h =
-      let s : closure_count (drop i part) ≡ one_closure (get_or part i 0) + closure_count (drop (i + 1) part) = rw (drop-cons part i 0 h, add-one i) refl in
-      omega (arith, inv, s, e)
-
-  pub count_end : length part ≤ i → n ≡ closure_count part
-  unfolding closure_count
-  count_end h = let s : closure_count (drop i part) ≡ 0 = rw (drop_of_length-le part h) refl in omega (arith, inv, s)
+-- closures counted by the standard library
+pub closures_counted : (ws : List ℕ) → closure_count ws ≡ count_by (λ w. eqb (kind_of w) CLOSURE) ws
+unfolding closure_count one_closure
+closures_counted ws = is_count_by closure_count (λ w. eqb (kind_of w) CLOSURE) refl (λ w xs. go (eqb (kind_of w) CLOSURE) (closure_count xs)) ws
+  where
+    go : (b : Bool) (n : ℕ) → cond b 1 0 + n ≡ cond b (1 + n) n
+    go true n = refl
+    go false n = omega arith

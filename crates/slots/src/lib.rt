@@ -14,23 +14,19 @@ pub struct Found {
 }
 
 // Whether a word of a kind stands where an attribute may.
+#[tactic(auto, unfolding(crate::specs::Slots::takes))]
 fn takes(kind: u64) -> bool
     ensures { result ≡ takes kind }
 {
-    if kind == 2 {
-        return true;
-    }
-    kind == 3
+    matches!(kind, 2 | 3)
 }
 
 // Whether a loop variable is known.
+#[tactic(auto, unfolding(crate::specs::Slots::of_loop))]
 fn of_loop(k: u64) -> bool
     ensures { result ≡ of_loop k }
 {
-    if k == 2 {
-        return true;
-    }
-    k == 3
+    matches!(k, 2 | 3)
 }
 
 // One more than the place of x among the first n names, 0 if it is not there.
@@ -38,12 +34,10 @@ fn place(names: [u64; 4], n: usize, x: u64) -> u64
     requires { n ≤ 4 }
     ensures { (result ≡ place_from x (take n names) 0) × (result ≤ n) }
 {
-    let mut i: usize = 0;
-    while i < n {
+    for i in 0..n {
         if names[i] == x {
-            return (i as u64) + 1;
+            return i as u64 + 1;
         }
-        i += 1;
     }
     0
 }
@@ -96,10 +90,8 @@ pub fn collect(part: &[u64], ids: &[u64], known: &[u64]) -> Found
         names: [0u64; 4],
         count: 0,
     };
-    let mut i: usize = 0;
-    while i < part.len() {
-        f = add_word(f, ids, known, part[i]);
-        i += 1;
+    for w in part {
+        f = add_word(f, ids, known, *w);
     }
     f
 }
@@ -128,11 +120,5 @@ pub fn one_closure(w: u64) -> usize
 pub fn closures(part: &[u64]) -> usize
     ensures { result ≡ closure_count part.now }
 {
-    let mut n: usize = 0;
-    let mut i: usize = 0;
-    while i < part.len() {
-        n += one_closure(part[i]);
-        i += 1;
-    }
-    n
+    part.iter().filter(|w| **w % 256 == 21).count()
 }

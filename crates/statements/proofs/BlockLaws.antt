@@ -1,4 +1,5 @@
 -- Blocks and ELSE: a sequence of statements at a level of its own.
+use Rattle.std.specs.Prelude.{Ok, Err}
 use mathlib.Core.List.{List, [], ◌∷◌, append-nil}
 use mathlib.Core.Path.{◌≡◌, refl, ap, sym, subst, ◌∙◌}
 use native.Mathlib.Omega.{arith}
@@ -15,9 +16,8 @@ use Rattle.simple.specs.Statements.{IsStatement}
 use Rattle.statements.specs.Blocks.{IsSequence, IsBlock, IsElse}
 use Rattle.terms.proofs.TokenLaws.{kind_within, key_first, not_key, closed_cases}
 use Rattle.terms.proofs.WriteLaws.{wrote_none, wrote_as}
-use Rattle.terms.specs.declared.Answer.{Answer}
-use Rattle.terms.specs.declared.Answer.TheVariants.{Read, Refused}
-use Rattle.terms.specs.Phrases.{kind_in, seen, closed}
+use Rattle.terms.specs.declared.ParseError.TheVariants.{NoProgram, TooMuch}
+use Rattle.terms.specs.Phrases.{Answer, kind_in, seen, closed}
 use Rattle.words.specs.Raw.{flat_program}
 
 -- what a block says
@@ -28,17 +28,17 @@ block_said ts a b p n q e =
     ap (λ j. flat_program (says ts a (p + 1) (says ts b j)) n) e ∙ ap (λ j. flat_program (says ts a j (says ts b (j + size a))) n) i
 
 module _ {ws : List ℕ} {p n d : ℕ} {A : List ℕ} where
-  pub block_open : {B : List ℕ} → p ≤ length ws → (kind_in ws p ≡ LBRACE → ⊥) → IsBlock ws p n d A B (Refused 10 p)
+  pub block_open : {B : List ℕ} → p ≤ length ws → (kind_in ws p ≡ LBRACE → ⊥) → IsBlock ws p n d A B (Err (NoProgram p))
   block_open l e = record { bounds = l; at = λ ts g. no_block! (not_key ws p e) }
 
-  pub block_deep : {B : List ℕ} → 32 ≤ d → kind_in ws p ≡ LBRACE → IsBlock ws p n d A B (Refused 13 p)
+  pub block_deep : {B : List ℕ} → 32 ≤ d → kind_in ws p ≡ LBRACE → IsBlock ws p n d A B (Err (TooMuch p))
   block_deep l e = let i = kind_within ws p (omega arith) in record { bounds = omega arith; at = λ ts g. deep! block_rule (omega arith) (key_first ws p e (omega arith)) }
 
   pub block_closes : {A₁ : List ℕ} {a r : Answer} → d < 32 → kind_in ws p ≡ LBRACE → IsSequence ws (p + 1) n (d + 1) A A₁ a → r ≡ closed ws RBRACE a → IsBlock ws p n d A A₁ r
   block_closes {A₁} {a} {r} l e h i = subst (IsBlock ws p n d A A₁) (sym i) (by a (let k : d + 1 ≡ suc d = omega arith in subst (λ d. IsSequence ws (p + 1) n d A A₁ a) k h))
     where
       by : (a : Answer) → IsSequence ws (p + 1) n (suc d) A A₁ a → IsBlock ws p n d A A₁ (closed ws RBRACE a)
-      by (Read q m) h = closed_cases (IsBlock ws p n d A A₁) ws RBRACE q m
+      by (Ok (q, m)) h = closed_cases (IsBlock ws p n d A A₁) ws RBRACE q m
           (λ f. let k = kind_within ws q (omega arith) in let o = h.bounds in record {
             bounds = record { more = o.more; ahead = omega (arith, o.ahead); paid = omega (arith, o.paid); within = omega arith };
             at = λ ts g. let s = h.at ts g in record {
@@ -51,7 +51,7 @@ module _ {ws : List ℕ} {p n d : ℕ} {A : List ℕ} where
             bounds = h.bounds.within;
             at = λ ts g. let s = h.at ts g in fail! block_rule (omega arith) (key_first ws p e (omega arith)) (s.one ▹ s.more ▹ stop! (no_token! (not_key ws q f)));
           })
-      by (Refused row q) h = record {
+      by (Err why) h = record {
         bounds = h.bounds;
         at = λ ts g. fail! block_rule (omega arith) (key_first ws p e (omega arith)) (record { is = λ s k. (h.at ts g).is (fixed RBRACE ∷ level_end ∷ s) (ap suc k) });
       }
@@ -75,13 +75,13 @@ nested {ws} {p} {n} {d} {A} {A₁} {r} e h = by r h
     stands = subst (Stands (phrase Statement) (phrase Block ∷ []) (λ fs. nest fs.0)) (sym (key_first ws p e (omega arith))) (nest_stands (drop (p + 1) (seen ws)))
 
     by : (r : Answer) → IsBlock ws p n d A A₁ r → IsStatement ws p n d A A₁ r
-    by (Read q m) h =
+    by (Ok (q, m)) h =
         let o = h.bounds in
         record {
           bounds = record { more = o.more; ahead = omega (arith, o.ahead); paid = omega (arith, o.paid); within = o.within };
           at = λ ts g. let f = h.at ts g in record { tree = nest f.tree; reads = as! stands f.reads; wrote = wrote_as (nest_said ts f.tree p n) f.wrote };
         }
-    by (Refused row q) h = record { bounds = h.bounds; at = λ ts g. as_fails! stands (h.at ts g) }
+    by (Err why) h = record { bounds = h.bounds; at = λ ts g. as_fails! stands (h.at ts g) }
 
 -- ELSE
 none_said : (ts : List Token) (p n : ℕ) → [] ≡ flat_program (says ts Grammar.no_else p) n
@@ -92,7 +92,7 @@ else_said : (ts : List Token) (t : Tree Block) (p n : ℕ) → flat_program (say
 unfolding says
 else_said ts t p n = let i : p + 1 ≡ suc p = omega arith in ap (λ j. flat_program (says ts t j) n) i
 
-pub else_none : {ws : List ℕ} {p n d : ℕ} {A : List ℕ} → p ≤ length ws → (kind_in ws p ≡ ELSE → ⊥) → IsElse ws p n d A A (Read p n)
+pub else_none : {ws : List ℕ} {p n d : ℕ} {A : List ℕ} → p ≤ length ws → (kind_in ws p ≡ ELSE → ⊥) → IsElse ws p n d A A (Ok (p, n))
 else_none {ws} {p} {n} {d} {A} l e = record {
   bounds = record { more = omega arith; ahead = omega arith; paid = omega arith; within = l };
   at = λ ts g. record { tree = Grammar.no_else; reads = no_else! (not_key ws p e); wrote = wrote_as (none_said ts p n) (wrote_none A n) };
@@ -102,10 +102,10 @@ pub else_some : {ws : List ℕ} {p n d : ℕ} {A A₁ : List ℕ} {r : Answer} �
 else_some {ws} {p} {n} {d} {A} {A₁} {r} l e h = by r h
   where
     by : (r : Answer) → IsBlock ws (p + 1) n d A A₁ r → IsElse ws p n d A A₁ r
-    by (Read q m) h =
+    by (Ok (q, m)) h =
         let o = h.bounds in
         record {
           bounds = record { more = o.more; ahead = omega (arith, o.ahead); paid = omega (arith, o.paid); within = o.within };
           at = λ ts g. let f = h.at ts g in record { tree = Grammar.else_block f.tree; reads = read! else_rule l (key_first ws p e (omega arith)) (f.reads ▸ done!); wrote = wrote_as (else_said ts f.tree p n) f.wrote };
         }
-    by (Refused row q) h = record { bounds = h.bounds; at = λ ts g. fail! else_rule l (key_first ws p e (omega arith)) (stop! (h.at ts g)) }
+    by (Err why) h = record { bounds = h.bounds; at = λ ts g. fail! else_rule l (key_first ws p e (omega arith)) (stop! (h.at ts g)) }

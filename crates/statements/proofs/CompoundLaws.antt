@@ -1,4 +1,5 @@
 -- IF, WHILE and FOR: their words over a block, and how the grammar reads them.
+use Rattle.std.specs.Prelude.{Ok, Err}
 use mathlib.Core.List.{List, [], ◌∷◌, ◌++◌, append-nil}
 use mathlib.Core.Path.{◌≡◌, refl, ap, sym, subst, ◌∙◌}
 use native.Mathlib.Omega.{arith}
@@ -20,19 +21,19 @@ use Rattle.statements.proofs.SequenceLaws.{read_size}
 use Rattle.statements.specs.Blocks.{IsBlock, IsElse, Headed, no_name, no_in, headed, Tested, Repeated, Ranged}
 use Rattle.terms.proofs.TokenLaws.{kind_within, key_first, key_then, name_then, name_number, place_of, not_key, not_name}
 use Rattle.terms.proofs.WriteLaws.{wrote_one, wrote_then, wrote_next, wrote_before, wrote_as}
-use Rattle.terms.specs.declared.Answer.{Answer}
-use Rattle.terms.specs.declared.Answer.TheVariants.{Read, Refused}
-use Rattle.terms.specs.Phrases.{kind_in, seen, Wrote, IsExpression}
+use Rattle.terms.specs.declared.ParseError.{ParseError}
+use Rattle.terms.specs.declared.ParseError.TheVariants.{NoProgram}
+use Rattle.terms.specs.Phrases.{Answer, kind_in, seen, Wrote, IsExpression}
 use Rattle.words.proofs.Sizes.{length_flat, length_program}
 use Rattle.words.specs.Fields.{word, BIND, RANGE, NEXT, TEST, JUMP, AGAIN}
 use Rattle.words.specs.Raw as Raw
 use Rattle.words.specs.Raw.{number, flat, size_program, flat_program}
 
 -- what an answer for a block says, where it is known
-pub block_span : {ws : List ℕ} {p n d q m : ℕ} {A A' : List ℕ} {b : Answer} → IsBlock ws p n d A A' b → b ≡ Read q m → Span ws 0 (p + 2) n q m
+pub block_span : {ws : List ℕ} {p n d q m : ℕ} {A A' : List ℕ} {b : Answer} → IsBlock ws p n d A A' b → b ≡ Ok (q, m) → Span ws 0 (p + 2) n q m
 block_span {ws} {p} {n} h i = subst (spans ws 0 (p + 2) n) i h.bounds
 
-block_of : {ws : List ℕ} {p n d q m : ℕ} {A A' : List ℕ} {b : Answer} → IsBlock ws p n d A A' b → b ≡ Read q m → IsBlock ws p n d A A' (Read q m)
+block_of : {ws : List ℕ} {p n d q m : ℕ} {A A' : List ℕ} {b : Answer} → IsBlock ws p n d A A' b → b ≡ Ok (q, m) → IsBlock ws p n d A A' (Ok (q, m))
 block_of {ws} {p} {n} {d} {A = A} {A'} h i = subst (IsBlock ws p n d A A') i h
 
 -- a statement that has, from token s on, an expression and a block: it fails where one of them does
@@ -58,22 +59,22 @@ module _ (ws : List ℕ) (p d : ℕ) (l : d ≤ 32) where
 
 -- the refusals
 module _ {ws : List ℕ} {p s n n' d : ℕ} {A A₁ B C : List ℕ} {a : Answer} (t : Compound ws p s d) (h : IsExpression ws s n' d A A₁ a) where
-  pub test_refused : {row q : ℕ} → a ≡ Refused row q → IsStatement ws p n d B C a
-  test_refused {row} {q} i = subst (IsStatement ws p n d B C) (sym i) (by (subst (IsExpression ws s n' d A A₁) i h))
+  pub test_refused : {why : ParseError} → a ≡ Err why → IsStatement ws p n d B C (Err why)
+  test_refused {why} i = by (subst (IsExpression ws s n' d A A₁) i h)
     where
-      by : IsExpression ws s n' d A A₁ (Refused row q) → IsStatement ws p n d B C (Refused row q)
+      by : IsExpression ws s n' d A A₁ (Err why) → IsStatement ws p n d B C (Err why)
       by h = record { bounds = h.bounds; at = λ ts g. t.no_test (h.at ts g) }
 
-  pub block_refused : {q m k row r : ℕ} {A₂ : List ℕ} {b : Answer} → a ≡ Read q m → IsBlock ws q k d A₁ A₂ b → b ≡ Refused row r → IsStatement ws p n d B C b
-  block_refused {q} {m} {k} {row} {r} {A₂} i v j = subst (IsStatement ws p n d B C) (sym j) (by (subst (IsBlock ws q k d A₁ A₂) j v))
+  pub block_refused : {q m k : ℕ} {why : ParseError} {A₂ : List ℕ} {b : Answer} → a ≡ Ok (q, m) → IsBlock ws q k d A₁ A₂ b → b ≡ Err why → IsStatement ws p n d B C (Err why)
+  block_refused {q} {m} {k} {why} {A₂} i v j = by (subst (IsBlock ws q k d A₁ A₂) j v)
     where
-      by : IsBlock ws q k d A₁ A₂ (Refused row r) → IsStatement ws p n d B C (Refused row r)
+      by : IsBlock ws q k d A₁ A₂ (Err why) → IsStatement ws p n d B C (Err why)
       by v = record { bounds = v.bounds; at = λ ts g. t.no_block (got_of h i ts g).reads (v.at ts g) }
 
-pub for_open : {ws : List ℕ} {p n d k : ℕ} {A A' B : List ℕ} → d ≤ 32 → kind_in ws p ≡ FOR → Headed ws p n A A' k → k < 3 → IsStatement ws p n d A B (Refused 10 (p + k))
+pub for_open : {ws : List ℕ} {p n d k : ℕ} {A A' B : List ℕ} → d ≤ 32 → kind_in ws p ≡ FOR → Headed ws p n A A' k → k < 3 → IsStatement ws p n d A B (Err (NoProgram (p + k)))
 for_open {ws} {p} {n} {d} {k} {A} {A'} {B} l e h i = by h i
   where
-    by : {k : ℕ} → Headed ws p n A A' k → k < 3 → IsStatement ws p n d A B (Refused 10 (p + k))
+    by : {k : ℕ} → Headed ws p n A A' k → k < 3 → IsStatement ws p n d A B (Err (NoProgram (p + k)))
     by (no_name f) i = let o = kind_within ws p (omega arith) in unstated (omega arith) (fail! for_rule l (key_first ws p e (omega arith)) (stop! (no_name! (not_name ws (p + 1) f))))
     by (no_in f g) i = let o = kind_within ws (p + 1) (omega arith) in unstated (omega arith) (fail! for_rule l (key_first ws p e (omega arith)) (variable ws p d l f ▹ stop! (no_token! (not_key ws (p + 2) g))))
     by (headed f g j) i = absurd (omega arith)
@@ -120,8 +121,8 @@ expression_end e n f = f.many ∙ ap (λ j. n + j) (length_flat e n)
 program_end : (b : Syntax.Program) (n : ℕ) {m : ℕ} {A A' : List ℕ} → Wrote A n (flat_program b n) m A' → m ≡ n + size_program b
 program_end b n f = f.many ∙ ap (λ j. n + j) (length_program b n)
 
-module _ {ws : List ℕ} {p n d q m : ℕ} {A A₁ A₂ : List ℕ} {a b : Answer} (l : d ≤ 32) (i : a ≡ Read q m) where
-  pub while_ends : {s k : ℕ} {A₃ : List ℕ} → kind_in ws p ≡ WHILE → IsExpression ws (p + 1) n d A A₁ a → IsBlock ws q (m + 1) d A₁ A₂ b → b ≡ Read s k → Repeated ws p m k A₂ A₃ → IsStatement ws p n d A A₃ (Read s (k + 1))
+module _ {ws : List ℕ} {p n d q m : ℕ} {A A₁ A₂ : List ℕ} {a b : Answer} (l : d ≤ 32) (i : a ≡ Ok (q, m)) where
+  pub while_ends : {s k : ℕ} {A₃ : List ℕ} → kind_in ws p ≡ WHILE → IsExpression ws (p + 1) n d A A₁ a → IsBlock ws q (m + 1) d A₁ A₂ b → b ≡ Ok (s, k) → Repeated ws p m k A₂ A₃ → IsStatement ws p n d A A₃ (Ok (s, k + 1))
   while_ends {s} {k} e h v w j =
       let o = paid_of h i in
       let o' = block_span v w in
@@ -135,7 +136,7 @@ module _ {ws : List ℕ} {p n d q m : ℕ} {A A₁ A₂ : List ℕ} {a b : Answe
         };
       }
 
-  pub for_ends : {s k : ℕ} {B A₃ : List ℕ} → kind_in ws p ≡ FOR → Heads ws p n B A → IsExpression ws (p + 3) (n + 1) d A A₁ a → IsBlock ws q (m + 1) d A₁ A₂ b → b ≡ Read s k → Ranged ws p m k A₂ A₃ → IsStatement ws p n d B A₃ (Read s (k + 1))
+  pub for_ends : {s k : ℕ} {B A₃ : List ℕ} → kind_in ws p ≡ FOR → Heads ws p n B A → IsExpression ws (p + 3) (n + 1) d A A₁ a → IsBlock ws q (m + 1) d A₁ A₂ b → b ≡ Ok (s, k) → Ranged ws p m k A₂ A₃ → IsStatement ws p n d B A₃ (Ok (s, k + 1))
   for_ends {s} {k} {B} e t h v w j =
       let o = paid_of h i in
       let o' = block_span v w in
@@ -150,17 +151,17 @@ module _ {ws : List ℕ} {p n d q m : ℕ} {A A₁ A₂ : List ℕ} {a b : Answe
         };
       }
 
-  module _ {s k : ℕ} {A₃ : List ℕ} {c : Answer} (e : kind_in ws p ≡ IF) (h : IsExpression ws (p + 1) n d A A₁ a) (v : IsBlock ws q (m + 1) d A₁ A₂ b) (w : b ≡ Read s k) (x : IsElse ws s (k + 1) d A₂ A₃ c) where
-    pub else_refused : {row r : ℕ} {B : List ℕ} → c ≡ Refused row r → IsStatement ws p n d A B c
-    else_refused {row} {r} {B} y = subst (IsStatement ws p n d A B) (sym y) (by (subst (IsElse ws s (k + 1) d A₂ A₃) y x))
+  module _ {s k : ℕ} {A₃ : List ℕ} {c : Answer} (e : kind_in ws p ≡ IF) (h : IsExpression ws (p + 1) n d A A₁ a) (v : IsBlock ws q (m + 1) d A₁ A₂ b) (w : b ≡ Ok (s, k)) (x : IsElse ws s (k + 1) d A₂ A₃ c) where
+    pub else_refused : {why : ParseError} {B : List ℕ} → c ≡ Err why → IsStatement ws p n d A B (Err why)
+    else_refused {why} {B} y = by (subst (IsElse ws s (k + 1) d A₂ A₃) y x)
       where
-        by : IsElse ws s (k + 1) d A₂ A₃ (Refused row r) → IsStatement ws p n d A B (Refused row r)
+        by : IsElse ws s (k + 1) d A₂ A₃ (Err why) → IsStatement ws p n d A B (Err why)
         by x = record { bounds = x.bounds; at = λ ts g. fail! conditional_rule l (key_first ws p e (omega arith)) ((got_of h i ts g).reads ▹ ((block_of v w).at ts g).reads ▹ stop! (x.at ts g)) }
 
-    pub if_ends : {s' k' : ℕ} {A₄ : List ℕ} → c ≡ Read s' k' → Tested ws p m k k' A₃ A₄ → IsStatement ws p n d A A₄ (Read s' k')
+    pub if_ends : {s' k' : ℕ} {A₄ : List ℕ} → c ≡ Ok (s', k') → Tested ws p m k k' A₃ A₄ → IsStatement ws p n d A A₄ (Ok (s', k'))
     if_ends {s'} {k'} {A₄} y j = by (subst (IsElse ws s (k + 1) d A₂ A₃) y x)
       where
-        by : IsElse ws s (k + 1) d A₂ A₃ (Read s' k') → IsStatement ws p n d A A₄ (Read s' k')
+        by : IsElse ws s (k + 1) d A₂ A₃ (Ok (s', k')) → IsStatement ws p n d A A₄ (Ok (s', k'))
         by x =
             let o = paid_of h i in
             let o' = block_span v w in
@@ -175,5 +176,5 @@ module _ {ws : List ℕ} {p n d q m : ℕ} {A A₁ A₂ : List ℕ} {a b : Answe
               };
             }
 
-pub else_span : {ws : List ℕ} {p n d q m : ℕ} {A A' : List ℕ} {c : Answer} → IsElse ws p n d A A' c → c ≡ Read q m → Span ws 0 p n q m
+pub else_span : {ws : List ℕ} {p n d q m : ℕ} {A A' : List ℕ} {c : Answer} → IsElse ws p n d A A' c → c ≡ Ok (q, m) → Span ws 0 p n q m
 else_span {ws} {p} {n} h i = subst (spans ws 0 p n) i h.bounds

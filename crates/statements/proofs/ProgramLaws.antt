@@ -1,4 +1,5 @@
 -- A whole program: what is left to say once its statements are read.
+use Rattle.std.specs.Prelude.{Ok, Err}
 use mathlib.Core.List.{List, [], ◌∷◌}
 use mathlib.Core.Path.{◌≡◌, ap, sym, subst, ◌∙◌}
 use native.Mathlib.Omega.{arith}
@@ -18,9 +19,9 @@ use Rattle.lexer.specs.Tokens.{at_of}
 use Rattle.simple.specs.Statements.{Span, spans}
 use Rattle.statements.specs.Blocks.{Sequence, sequenced, IsSequence, IsProgram}
 use Rattle.terms.proofs.WriteLaws.{wrote_as}
-use Rattle.terms.specs.declared.Answer.{Answer}
-use Rattle.terms.specs.declared.Answer.TheVariants.{Read, Refused}
-use Rattle.terms.specs.Phrases.{Holds}
+use Rattle.terms.specs.declared.ParseError.{ParseError}
+use Rattle.terms.specs.declared.ParseError.TheVariants.{NoProgram}
+use Rattle.terms.specs.Phrases.{Answer, row_of, token_of, Holds}
 use Rattle.words.specs.Raw.{flat_program}
 
 program_said : (ts : List Token) (a : Tree Statement) (b : Tree MoreStatements) (q : ℕ) → q ≡ 0 + size a → flat_program (says ts a 0 (says ts b q)) 0 ≡ flat_program (says ts (Grammar.program a b)) 0
@@ -31,16 +32,16 @@ many : {ws : List ℕ} {ts : List Token} → Holds ws ts → length ts ≡ lengt
 many {ws} {ts} g = sym (length-map ts (λ (t : Token). t.at)) ∙ ap length g.places ∙ length-map ws at_of
 
 module _ {ws A A₁ : List ℕ} {a : Answer} (h : IsSequence ws 0 0 0 A A₁ a) where
-  pub program_refused : {row q : ℕ} → a ≡ Refused row q → IsProgram ws A A₁ a
-  program_refused {row} {q} i = subst (IsProgram ws A A₁) (sym i) (by (subst (IsSequence ws 0 0 0 A A₁) i h))
+  pub program_refused : {why : ParseError} → a ≡ Err why → IsProgram ws A A₁ (Err why)
+  program_refused {why} i = by (subst (IsSequence ws 0 0 0 A A₁) i h)
     where
-      by : IsSequence ws 0 0 0 A A₁ (Refused row q) → IsProgram ws A A₁ (Refused row q)
+      by : IsSequence ws 0 0 0 A A₁ (Err why) → IsProgram ws A A₁ (Err why)
       by h = record {
         bounds = h.bounds;
-        at = λ ts g n. program_fails n ts row q (omega (arith, h.bounds, many g)) (subst (λ l. Fails 0 (phrase Program ∷ []) l row (drop q l)) (sym g.same) (as_fails! program_rule (h.at ts g)));
+        at = λ ts g n. program_fails n ts (row_of why) (token_of why) (omega (arith, h.bounds, many g)) (subst (λ l. Fails 0 (phrase Program ∷ []) l (row_of why) (drop (token_of why) l)) (sym g.same) (as_fails! program_rule (h.at ts g)));
       }
 
-  module _ {q m : ℕ} (i : a ≡ Read q m) where
+  module _ {q m : ℕ} (i : a ≡ Ok (q, m)) where
     span : Span ws 0 0 0 q m
     span = subst (spans ws 0 0 0) i h.bounds
 
@@ -50,7 +51,7 @@ module _ {ws A A₁ : List ℕ} {a : Answer} (h : IsSequence ws 0 0 0 A A₁ a) 
     reads : (ts : List Token) (g : Holds ws ts) → Reads 0 (phrase Program ∷ []) (terminals ts) (Grammar.program (got ts g).first (got ts g).rest, tt) (drop q (terminals ts))
     reads ts g = let f = got ts g in subst (λ l. Reads 0 (phrase Program ∷ []) l (Grammar.program f.first f.rest, tt) (drop q l)) (sym g.same) (as! program_rule (f.one ▸ f.more ▸ done!))
 
-    pub program_ends : q ≡ length ws → IsProgram ws A A₁ (Read q m)
+    pub program_ends : q ≡ length ws → IsProgram ws A A₁ (Ok (q, m))
     program_ends e = record {
       bounds = (e, omega (arith, span.paid));
       at = λ ts g. let f = got ts g in record {
@@ -60,7 +61,7 @@ module _ {ws A A₁ : List ℕ} {a : Answer} (h : IsSequence ws 0 0 0 A A₁ a) 
       };
     }
 
-    pub program_longer : (q ≡ length ws → ⊥) → {B : List ℕ} → IsProgram ws A B (Refused 10 q)
+    pub program_longer : (q ≡ length ws → ⊥) → {B : List ℕ} → IsProgram ws A B (Err (NoProgram q))
     program_longer e = record {
       bounds = span.within;
       at = λ ts g n. let f = got ts g in program_left n ts (Grammar.program f.first f.rest) q (less q (length ts) (omega (arith, span.within, many g)) (λ i. e (i ∙ many g))) (reads ts g);

@@ -1,4 +1,5 @@
 -- One statement after the other: their words, and how the grammar reads them.
+use Rattle.std.specs.Prelude.{Ok, Err}
 use mathlib.Core.Bool.{Bool, true, false, not}
 use mathlib.Core.List.{List, [], ◌∷◌, ◌++◌, map, append_assoc, append-nil}
 use mathlib.Core.Path.{◌≡◌, refl, ap, sym, subst, ◌∙◌}
@@ -24,9 +25,9 @@ use Rattle.simple.specs.Statements.{Span, spans, IsStatement}
 use Rattle.statements.specs.Blocks.{First, a_name, an_if, a_while, a_for, a_brace, a_print, NotFirst, Begins, IsSequence}
 use Rattle.terms.proofs.TokenLaws.{key_first, name_first, not_key, not_name}
 use Rattle.terms.proofs.WriteLaws.{wrote_then, wrote_as}
-use Rattle.terms.specs.declared.Answer.{Answer}
-use Rattle.terms.specs.declared.Answer.TheVariants.{Read, Refused}
-use Rattle.terms.specs.Phrases.{kind_in, seen, Holds, Wrote}
+use Rattle.terms.specs.declared.ParseError.{ParseError}
+use Rattle.terms.specs.declared.ParseError.TheVariants.{NoProgram}
+use Rattle.terms.specs.Phrases.{Answer, row_of, token_of, kind_in, seen, Holds, Wrote}
 use Rattle.words.proofs.Sizes.{length_program}
 use Rattle.words.specs.Raw as Raw
 use Rattle.words.specs.Fields.{ATTRIBUTE}
@@ -54,7 +55,7 @@ some_tokens (Grammar.for_loop x e b) = omega arith
 some_tokens (Grammar.nested_block a b) = omega arith
 some_tokens (Grammar.print_statement a b) = omega arith
 
-pub statement_ahead : {ws : List ℕ} {p n d q m : ℕ} {A A' : List ℕ} → d ≤ 32 → p ≤ length ws → IsStatement ws p n d A A' (Read q m) → p < q
+pub statement_ahead : {ws : List ℕ} {p n d q m : ℕ} {A A' : List ℕ} → d ≤ 32 → p ≤ length ws → IsStatement ws p n d A A' (Ok (q, m)) → p < q
 statement_ahead {ws} {p} {q = q} l i h = let f = h.at (tokens_of [] 0 ws) (tokens_hold [] ws) in omega (arith, read_size ws p q l i h.bounds.within f.reads, some_tokens f.tree)
 
 -- the words of a statement, and of what follows it
@@ -121,7 +122,7 @@ starts ws q (a_print e) = ap (λ l. begins_statement (next l)) (key_first ws q e
 starts_not : (ws : List ℕ) (q : ℕ) → NotFirst (kind_in ws q) → begins_statement (next (drop q (seen ws))) ≡ false
 starts_not ws q h = not_statement (next (drop q (seen ws))) (not_name ws q h.no_name) (not_key ws q h.no_if) (not_key ws q h.no_while) (not_key ws q h.no_for) (not_key ws q h.no_brace) (not_key ws q h.no_print)
 
-pub no_statement : {ws : List ℕ} {p n d : ℕ} {A B : List ℕ} → p ≤ length ws → NotFirst (kind_in ws p) → IsStatement ws p n d A B (Refused 10 p)
+pub no_statement : {ws : List ℕ} {p n d : ℕ} {A B : List ℕ} → p ≤ length ws → NotFirst (kind_in ws p) → IsStatement ws p n d A B (Err (NoProgram p))
 no_statement {ws} {p} l h = unstated l (no_statement! (starts_not ws p h))
 
 -- further statements read by a loop: it has come from the tokens ts to l, and what more statements do at l they do at ts, with the trees
@@ -143,8 +144,8 @@ pub record Sofar (ws : List ℕ) (ts : List Token) (p n d : ℕ) (A A' : List �
   pub wrote : Wrote A n words m A'
 
 abbrev pub sofar : List ℕ → List Token → ℕ → ℕ → ℕ → List ℕ → List ℕ → Answer → Type 0
-sofar ws ts p n d A A' (Read q m) = Sofar ws ts p n d A A' q m
-sofar ws ts p n d A A' (Refused row q) = Fails d (phrase Statement ∷ phrase MoreStatements ∷ []) (drop p (seen ws)) row (drop q (seen ws))
+sofar ws ts p n d A A' (Ok (q, m)) = Sofar ws ts p n d A A' q m
+sofar ws ts p n d A A' (Err why) = Fails d (phrase Statement ∷ phrase MoreStatements ∷ []) (drop p (seen ws)) (row_of why) (drop (token_of why) (seen ws))
 
 pub record IsSofar (ws : List ℕ) (p n d : ℕ) (A A' : List ℕ) (a : Answer) : Type 0 where
   pub bounds : spans ws 0 p n a
@@ -156,7 +157,7 @@ module _ {ws : List ℕ} {p n d : ℕ} {A A₁ : List ℕ} (l : d ≤ 32) where
   sequence_starts {a} i h long = by a h
     where
       by : (a : Answer) → IsStatement ws p n d A A₁ a → IsSofar ws p n d A A₁ a
-      by (Read q m) h = record {
+      by (Ok (q, m)) h = record {
         bounds = h.bounds;
         long = long;
         at = λ ts g. let f = h.at ts g in record {
@@ -170,20 +171,20 @@ module _ {ws : List ℕ} {p n d : ℕ} {A A₁ : List ℕ} (l : d ≤ 32) where
           wrote = f.wrote;
         };
       }
-      by (Refused row q) h = record { bounds = h.bounds; long = long; at = λ ts g. stop! (h.at ts g) }
+      by (Err why) h = record { bounds = h.bounds; long = long; at = λ ts g. stop! (h.at ts g) }
 
   module _ {a : Answer} (h : IsSofar ws p n d A A₁ a) where
-    pub sequence_stops : {row q : ℕ} → a ≡ Refused row q → IsSequence ws p n d A A₁ a
-    sequence_stops {row} {q} i = subst (IsSequence ws p n d A A₁) (sym i) (record { bounds = subst (spans ws 0 p n) i h.bounds; at = λ ts g. subst (sofar ws ts p n d A A₁) i (h.at ts g) })
+    pub sequence_stops : {why : ParseError} → a ≡ Err why → IsSequence ws p n d A A₁ (Err why)
+    sequence_stops i = record { bounds = subst (spans ws 0 p n) i h.bounds; at = λ ts g. subst (sofar ws ts p n d A A₁) i (h.at ts g) }
 
-    module _ {q m : ℕ} (i : a ≡ Read q m) where
+    module _ {q m : ℕ} (i : a ≡ Ok (q, m)) where
       pub sequence_span : Span ws 0 p n q m
       sequence_span = subst (spans ws 0 p n) i h.bounds
 
       got : (ts : List Token) → Holds ws ts → Sofar ws ts p n d A A₁ q m
       got ts g = subst (sofar ws ts p n d A A₁) i (h.at ts g)
 
-      pub sequence_ends : NotFirst (kind_in ws q) → IsSequence ws p n d A A₁ (Read q m)
+      pub sequence_ends : NotFirst (kind_in ws q) → IsSequence ws p n d A A₁ (Ok (q, m))
       sequence_ends e = record {
         bounds = sequence_span;
         at = λ ts g. let f = got ts g in record {
@@ -201,7 +202,7 @@ module _ {ws : List ℕ} {p n d : ℕ} {A A₁ : List ℕ} (l : d ≤ 32) where
       sequence_on e {A₂} {b} v long = by b v
         where
           by : (b : Answer) → IsStatement ws q m d A₁ A₂ b → IsSofar ws p n d A A₂ b
-          by (Read q' m') v =
+          by (Ok (q', m')) v =
               let o = sequence_span in
               let o' = v.bounds in
               record {
@@ -222,18 +223,18 @@ module _ {ws : List ℕ} {p n d : ℕ} {A A₁ : List ℕ} (l : d ≤ 32) where
                   wrote = wrote_then f.wrote c.wrote;
                 };
               }
-          by (Refused row q') v = record {
+          by (Err why) v = record {
             long = long;
             bounds = v.bounds;
-            at = λ ts g. let f = got ts g in f.one ▹ f.upto.fails row (drop q' (seen ws)) (as_fails! (more_statements_rule (starts ws q e)) (stop! (v.at ts g)));
+            at = λ ts g. let f = got ts g in f.one ▹ f.upto.fails (row_of why) (drop (token_of why) (seen ws)) (as_fails! (more_statements_rule (starts ws q e)) (stop! (v.at ts g)));
           }
 
-pub sequence_less : {ws : List ℕ} {q m d : ℕ} {A₁ A₂ : List ℕ} {a b : Answer} → d ≤ 32 → q ≤ length ws → a ≡ Read q m → IsStatement ws q m d A₁ A₂ b → left ws b < left ws a
+pub sequence_less : {ws : List ℕ} {q m d : ℕ} {A₁ A₂ : List ℕ} {a b : Answer} → d ≤ 32 → q ≤ length ws → a ≡ Ok (q, m) → IsStatement ws q m d A₁ A₂ b → left ws b < left ws a
 sequence_less {ws} {q} {m} {d} {A₁} {A₂} {a} {b} l i e v = subst (λ a. left ws b < left ws a) (sym e) (by b v)
   where
     by : (b : Answer) → IsStatement ws q m d A₁ A₂ b → left ws b < suc (length ws - q)
-    by (Read q' m') v = omega (arith, statement_ahead l i v, v.bounds.within)
-    by (Refused row q') v = omega arith
+    by (Ok (q', m')) v = omega (arith, statement_ahead l i v, v.bounds.within)
+    by (Err why) v = omega arith
 
 -- the answer of the test whether a statement begins
 pub begins_not : {k : ℕ} (b : Bool) → not b ≡ true → Begins k b → NotFirst k

@@ -1,5 +1,5 @@
 -- What a function that reads statements in a row, a block, an ELSE or a program answers; and what the words are that go over a block.
-use Rattle.std.specs.Prelude.{Bool, true, false, List, [], ◌∷◌, ◌≡◌, ℕ, ◌+◌, ◌-◌, ◌≤◌, ◌<◌, length, drop, set, get_or}
+use Rattle.std.specs.Prelude.{Ok, Err, Bool, true, false, List, [], ◌∷◌, ◌≡◌, ℕ, ◌+◌, ◌-◌, ◌≤◌, ◌<◌, length, drop, set, get_or}
 use Rattle.definition.proofs.GrammarReads.{Reads, Fails}
 use Rattle.definition.specs.Accept.{read_answer}
 use Rattle.definition.specs.Answer as Answers
@@ -9,9 +9,7 @@ use Rattle.definition.specs.Syntax.{says, size}
 use Rattle.definition.specs.Token.{Token, terminals, place_at, LBRACE, IF, WHILE, FOR, IN, PRINT}
 use Rattle.lexer.specs.Tokens.{at_of, NAME}
 use Rattle.simple.specs.Statements.{stated, spans, IsStated}
-use Rattle.terms.specs.declared.Answer.{Answer}
-use Rattle.terms.specs.declared.Answer.TheVariants.{Read, Refused}
-use Rattle.terms.specs.Phrases.{kind_in, seen, Holds, Wrote}
+use Rattle.terms.specs.Phrases.{Answer, row_of, token_of, kind_in, seen, Holds, Wrote}
 use Rattle.words.specs.Fields.{word, BIND, RANGE, NEXT, TEST, JUMP, AGAIN}
 use Rattle.words.specs.Raw.{flat_program}
 
@@ -47,8 +45,8 @@ pub record Sequence (ws : List ℕ) (ts : List Token) (p n d : ℕ) (A A' : List
   pub wrote : Wrote A n (flat_program (says ts first p (says ts rest at)) n) m A'
 
 abbrev pub sequenced : List ℕ → List Token → ℕ → ℕ → ℕ → List ℕ → List ℕ → Answer → Type 0
-sequenced ws ts p n d A A' (Read q m) = Sequence ws ts p n d A A' q m
-sequenced ws ts p n d A A' (Refused row q) = Fails d (phrase Statement ∷ phrase MoreStatements ∷ []) (drop p (seen ws)) row (drop q (seen ws))
+sequenced ws ts p n d A A' (Ok (q, m)) = Sequence ws ts p n d A A' q m
+sequenced ws ts p n d A A' (Err why) = Fails d (phrase Statement ∷ phrase MoreStatements ∷ []) (drop p (seen ws)) (row_of why) (drop (token_of why) (seen ws))
 
 pub record IsSequence (ws : List ℕ) (p n d : ℕ) (A A' : List ℕ) (r : Answer) : Type 0 where
   pub bounds : spans ws 0 p n r
@@ -96,12 +94,12 @@ pub record Whole (ws : List ℕ) (ts : List Token) (A A' : List ℕ) (m : ℕ) :
   pub wrote : Wrote A 0 (flat_program (says ts tree) 0) m A'
 
 abbrev pub whole : List ℕ → List Token → List ℕ → List ℕ → Answer → Type 0
-whole ws ts A A' (Read q m) = Whole ws ts A A' m
-whole ws ts A A' (Refused row q) = (n : ℕ) → read_answer n ts (read_program (terminals ts)) ≡ Answers.refused row (place_at n ts q)
+whole ws ts A A' (Ok (q, m)) = Whole ws ts A A' m
+whole ws ts A A' (Err why) = (n : ℕ) → read_answer n ts (read_program (terminals ts)) ≡ Answers.refused (row_of why) (place_at n ts (token_of why))
 
 abbrev pub ends : List ℕ → Answer → Type 0
-ends ws (Read q m) = (q ≡ length ws) × (m ≤ q)
-ends ws (Refused row q) = q ≤ length ws
+ends ws (Ok (q, m)) = (q ≡ length ws) × (m ≤ q)
+ends ws (Err why) = token_of why ≤ length ws
 
 pub record IsProgram (ws : List ℕ) (A A' : List ℕ) (r : Answer) : Type 0 where
   pub bounds : ends ws r

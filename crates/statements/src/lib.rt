@@ -9,7 +9,7 @@ ghost use Rattle.terms.specs.Phrases.{kind_in, Room};
 
 use expressions::comparison;
 use simple::{assignment, place, print};
-use terms::{Answer, close, kind_at};
+use terms::{Answer, ParseError, close, kind_at};
 use words::pack;
 
 // Whether the token q begins a statement.
@@ -82,7 +82,7 @@ fn statement(tokens: &[u64], words: &mut [u64], p: usize, n: usize, d: usize) ->
         30 => print(tokens, words, p, n, d),
         38 => while_loop(tokens, words, p, n, d),
         47 => assignment(tokens, words, p, n, d),
-        _ => Answer::Refused(10, p),
+        _ => Err(ParseError::NoProgram(p)),
     }
 }
 
@@ -92,16 +92,11 @@ fn sequence(tokens: &[u64], words: &mut [u64], p: usize, n: usize, d: usize) -> 
     requires { Places tokens.now × Room tokens.now (length words.old) p n d }
     ensures { IsSequence tokens.now p n d words.old words.new result }
 {
-    let mut a = statement(tokens, words, p, n, d);
-    loop {
-        let Answer::Read(q, m) = a else {
-            return a;
-        };
-        if !begins(tokens, q) {
-            return a;
-        }
-        a = statement(tokens, words, q, m, d);
+    let (mut q, mut m) = statement(tokens, words, p, n, d)?;
+    while begins(tokens, q) {
+        (q, m) = statement(tokens, words, q, m, d)?;
     }
+    Ok((q, m))
 }
 
 #[cycle(block_conditional_for_loop_otherwise_sequence_statement_while_loop)]
@@ -110,10 +105,10 @@ fn block(tokens: &[u64], words: &mut [u64], p: usize, n: usize, d: usize) -> Ans
     ensures { IsBlock tokens.now p n d words.old words.new result }
 {
     if kind_at(tokens, p) != 2 {
-        return Answer::Refused(10, p);
+        return Err(ParseError::NoProgram(p));
     }
     if d >= 32 {
-        return Answer::Refused(13, p);
+        return Err(ParseError::TooMuch(p));
     }
     let a = sequence(tokens, words, p + 1, n, d + 1);
     close(tokens, 3, a)
@@ -126,7 +121,7 @@ fn otherwise(tokens: &[u64], words: &mut [u64], p: usize, n: usize, d: usize) ->
     ensures { IsElse tokens.now p n d words.old words.new result }
 {
     if kind_at(tokens, p) != 17 {
-        return Answer::Read(p, n);
+        return Ok((p, n));
     }
     block(tokens, words, p + 1, n, d)
 }
@@ -136,20 +131,11 @@ fn conditional(tokens: &[u64], words: &mut [u64], p: usize, n: usize, d: usize) 
     requires { (kind_in tokens.now p ≡ 24) × (Places tokens.now × Room tokens.now (length words.old) p n d) }
     ensures { IsStatement tokens.now p n d words.old words.new result }
 {
-    let a = comparison(tokens, words, p + 1, n, d);
-    let Answer::Read(q, m) = a else {
-        return a;
-    };
-    let b = block(tokens, words, q, m + 1, d);
-    let Answer::Read(r, l) = b else {
-        return b;
-    };
-    let c = otherwise(tokens, words, r, l + 1, d);
-    let Answer::Read(u, f) = c else {
-        return c;
-    };
+    let (q, m) = comparison(tokens, words, p + 1, n, d)?;
+    let (r, l) = block(tokens, words, q, m + 1, d)?;
+    let (u, f) = otherwise(tokens, words, r, l + 1, d)?;
     tested(tokens, words, p, m, l, f);
-    Answer::Read(u, f)
+    Ok((u, f))
 }
 
 #[cycle(block_conditional_for_loop_otherwise_sequence_statement_while_loop)]
@@ -157,16 +143,10 @@ fn while_loop(tokens: &[u64], words: &mut [u64], p: usize, n: usize, d: usize) -
     requires { (kind_in tokens.now p ≡ 38) × (Places tokens.now × Room tokens.now (length words.old) p n d) }
     ensures { IsStatement tokens.now p n d words.old words.new result }
 {
-    let a = comparison(tokens, words, p + 1, n, d);
-    let Answer::Read(q, m) = a else {
-        return a;
-    };
-    let b = block(tokens, words, q, m + 1, d);
-    let Answer::Read(r, l) = b else {
-        return b;
-    };
+    let (q, m) = comparison(tokens, words, p + 1, n, d)?;
+    let (r, l) = block(tokens, words, q, m + 1, d)?;
     repeated(tokens, words, p, m, l);
-    Answer::Read(r, l + 1)
+    Ok((r, l + 1))
 }
 
 #[cycle(block_conditional_for_loop_otherwise_sequence_statement_while_loop)]
@@ -176,18 +156,12 @@ fn for_loop(tokens: &[u64], words: &mut [u64], p: usize, n: usize, d: usize) -> 
 {
     let k = heading(tokens, words, p, n);
     if k < 3 {
-        return Answer::Refused(10, p + k);
+        return Err(ParseError::NoProgram(p + k));
     }
-    let a = comparison(tokens, words, p + 3, n + 1, d);
-    let Answer::Read(q, m) = a else {
-        return a;
-    };
-    let b = block(tokens, words, q, m + 1, d);
-    let Answer::Read(r, l) = b else {
-        return b;
-    };
+    let (q, m) = comparison(tokens, words, p + 3, n + 1, d)?;
+    let (r, l) = block(tokens, words, q, m + 1, d)?;
     ranged(tokens, words, p, m, l);
-    Answer::Read(r, l + 1)
+    Ok((r, l + 1))
 }
 
 // The words of the program that the tokens are, or the row and the token of its refusal.
@@ -195,12 +169,9 @@ pub fn parse(tokens: &[u64], words: &mut [u64]) -> Answer
     requires { (length tokens.now ≤ 2048) × ((length tokens.now ≤ length words.old) × Places tokens.now) }
     ensures { IsProgram tokens.now words.old words.new result }
 {
-    let a = sequence(tokens, words, 0, 0, 0);
-    let Answer::Read(q, m) = a else {
-        return a;
-    };
+    let (q, m) = sequence(tokens, words, 0, 0, 0)?;
     if q == tokens.len() {
-        return a;
+        return Ok((q, m));
     }
-    Answer::Refused(10, q)
+    Err(ParseError::NoProgram(q))
 }

@@ -1,4 +1,5 @@
 -- Atoms: the words of each, and how the grammar reads it.
+use Rattle.std.specs.Prelude.{Ok, Err}
 use mathlib.Core.List.{List, [], ◌∷◌, ◌++◌}
 use mathlib.Core.Logic.{◌⊎◌, ⊎_elim}
 use mathlib.Core.Path.{◌≡◌, refl, ap, sym, subst, ◌∙◌}
@@ -16,22 +17,22 @@ use Rattle.terms.proofs.LeafLaws.{a_term, Leaf, a_name_leaf, a_string_leaf, any_
 use Rattle.terms.proofs.TermsLaws.{terms_read, terms_fail}
 use Rattle.terms.proofs.TokenLaws.{kind_within, key_first, key_then, name_first, string_first, sign_first, sign_code, not_key, not_name, not_string, not_sign, name_number}
 use Rattle.terms.proofs.WriteLaws.{wrote_next, wrote_before, wrote_as}
-use Rattle.terms.specs.declared.Answer.{Answer}
-use Rattle.terms.specs.declared.Answer.TheVariants.{Read, Refused}
-use Rattle.terms.specs.Phrases.{kind_in, seen, Meaning, Parsed, IsPrimary}
+use Rattle.terms.specs.declared.ParseError.{ParseError}
+use Rattle.terms.specs.declared.ParseError.TheVariants.{NoProgram}
+use Rattle.terms.specs.Phrases.{Answer, row_of, token_of, kind_in, seen, Meaning, Parsed, IsPrimary}
 use Rattle.terms.specs.Terms.{leaf_of, leaf_in, Listed, Unlisted, IsListed, Truth, is_true, is_false, IsSign, Plain}
 use Rattle.words.proofs.Sizes.{length_leaves}
 use Rattle.words.specs.Fields.{word, TERM, RELATION_NAME, ATOM, TRUTH, FALSITY, ORDER}
 use Rattle.words.specs.Raw.{leaf, leaves, flat, number, sign_number}
 use Rattle.lexer.specs.Tokens.{sign_of}
 
-pub refused : {x : Nonterminal} {e : Meaning x} {ws : List ℕ} {p n d row q : ℕ} {A B : List ℕ} → q ≤ length ws → Fails d (phrase x ∷ []) (drop p (seen ws)) row (drop q (seen ws)) → Parsed x e ws p n d A B (Refused row q)
+pub refused : {x : Nonterminal} {e : Meaning x} {ws : List ℕ} {p n d : ℕ} {r : ParseError} {A B : List ℕ} → token_of r ≤ length ws → Fails d (phrase x ∷ []) (drop p (seen ws)) (row_of r) (drop (token_of r) (seen ws)) → Parsed x e ws p n d A B (Err r)
 refused h f = record { bounds = h; at = λ ts i. f }
 
-pub listed_of : {ws : List ℕ} {k p n q m : ℕ} {A A' : List ℕ} {a : Answer} → IsListed ws k p n A A' a → a ≡ Read q m → Listed ws k p n A A' q m
+pub listed_of : {ws : List ℕ} {k p n q m : ℕ} {A A' : List ℕ} {a : Answer} → IsListed ws k p n A A' a → a ≡ Ok (q, m) → Listed ws k p n A A' q m
 listed_of h e = rw e at h.is
 
-pub unlisted_of : {ws : List ℕ} {k p n q row : ℕ} {A A' : List ℕ} {a : Answer} → IsListed ws k p n A A' a → a ≡ Refused row q → Unlisted ws k p q row
+pub unlisted_of : {ws : List ℕ} {k p n : ℕ} {r : ParseError} {A A' : List ℕ} {a : Answer} → IsListed ws k p n A A' a → a ≡ Err r → Unlisted ws k p (token_of r) (row_of r)
 unlisted_of h e = rw e at h.is
 
 -- what each atom says, as words
@@ -60,12 +61,12 @@ between_words ts g a b n x y k e f i = sym (simp (e, f, i))
 
 -- a relation's atom
 module _ {ws : List ℕ} {p n : ℕ} {A A₁ : List ℕ} {a : Answer} (e : kind_in ws p ≡ 47) (f : kind_in ws (p + 1) ≡ 0) (h : IsListed ws TERM (p + 2) (n + 1) A A₁ a) where
-  pub relation_fails : {row q : ℕ} → a ≡ Refused row q → {B : List ℕ} → (d : ℕ) → d ≤ 32 → IsPrimary ws p n d A B a
-  relation_fails {row} {q} i d l =
+  pub relation_fails : {r : ParseError} → a ≡ Err r → {B : List ℕ} → (d : ℕ) → d ≤ 32 → IsPrimary ws p n d A B (Err r)
+  relation_fails i d l =
       let u = unlisted_of h i in
-      rw (i, u.ten) (refused u.within (atom_fails! l (name_first ws p e) (key_then ws (p + 1) (p + 2) (omega arith) f (omega arith)) (terms_fail d l u.unclosed u.broken)))
+      refused u.within (rw u.ten (atom_fails! l (name_first ws p e) (key_then ws (p + 1) (p + 2) (omega arith) f (omega arith)) (terms_fail d l u.unclosed u.broken)))
 
-  pub relation_reads : {q m w v : ℕ} → a ≡ Read q m → w ≡ word RELATION_NAME p (m - n - 1) 0 → v ≡ word ATOM n (m - n - 1) 0 → (d : ℕ) → d ≤ 32 → IsPrimary ws p n d A (set (set A₁ n w) m v) (Read q (m + 1))
+  pub relation_reads : {q m w v : ℕ} → a ≡ Ok (q, m) → w ≡ word RELATION_NAME p (m - n - 1) 0 → v ≡ word ATOM n (m - n - 1) 0 → (d : ℕ) → d ≤ 32 → IsPrimary ws p n d A (set (set A₁ n w) m v) (Ok (q, m + 1))
   relation_reads {q} {m} {w} {v} i x y d l =
       let u = listed_of h i in
       let r = terms_read u.brackets in
@@ -90,20 +91,20 @@ truth_law is_true = record { low = omega arith; tree = true_atom; takes = true_r
 truth_law is_false = record { low = omega arith; tree = false_atom; takes = false_rule; words = false_words }
 
 module _ (ws : List ℕ) (p n k : ℕ) (A : List ℕ) (t : Truth (kind_in ws p) k) where
-  pub truth_open : (kind_in ws (p + 1) ≡ 0 → ⊥) → {B : List ℕ} → (d : ℕ) → d ≤ 32 → IsPrimary ws p n d A B (Refused 10 (p + 1))
+  pub truth_open : (kind_in ws (p + 1) ≡ 0 → ⊥) → {B : List ℕ} → (d : ℕ) → d ≤ 32 → IsPrimary ws p n d A B (Err (NoProgram (p + 1)))
   truth_open f d l =
       let b = truth_law t in
       let i = kind_within ws p (omega (arith, b.low)) in
       refused (omega arith) (fail! b.takes l (key_first ws p refl b.low) (stop! (no_token! (not_key ws (p + 1) f))))
 
   module _ {A₁ : List ℕ} {a : Answer} (f : kind_in ws (p + 1) ≡ 0) (h : IsListed ws TERM (p + 2) n A A₁ a) where
-    pub truth_stops : {row q : ℕ} → a ≡ Refused row q → {B : List ℕ} → (d : ℕ) → d ≤ 32 → IsPrimary ws p n d A B a
-    truth_stops {row} {q} i d l =
+    pub truth_stops : {r : ParseError} → a ≡ Err r → {B : List ℕ} → (d : ℕ) → d ≤ 32 → IsPrimary ws p n d A B (Err r)
+    truth_stops i d l =
         let b = truth_law t in
         let u = unlisted_of h i in
-        rw (i, u.ten) (refused u.within (fail! b.takes l (key_first ws p refl b.low) (token! l (key_then ws (p + 1) (p + 2) (omega arith) f (omega arith)) ▹ terms_fail d l u.unclosed u.broken)))
+        refused u.within (rw u.ten (fail! b.takes l (key_first ws p refl b.low) (token! l (key_then ws (p + 1) (p + 2) (omega arith) f (omega arith)) ▹ terms_fail d l u.unclosed u.broken)))
 
-    pub truth_reads : {q m w : ℕ} → a ≡ Read q m → w ≡ word k n (m - n) 0 → (d : ℕ) → d ≤ 32 → IsPrimary ws p n d A (set A₁ m w) (Read q (m + 1))
+    pub truth_reads : {q m w : ℕ} → a ≡ Ok (q, m) → w ≡ word k n (m - n) 0 → (d : ℕ) → d ≤ 32 → IsPrimary ws p n d A (set A₁ m w) (Ok (q, m + 1))
     truth_reads {q} {m} {w} i x d l =
         let b = truth_law t in
         let u = listed_of h i in
@@ -119,41 +120,41 @@ module _ (ws : List ℕ) (p n k : ℕ) (A : List ℕ) (t : Truth (kind_in ws p) 
 
 -- a sign before two terms
 module _ (ws : List ℕ) (p n : ℕ) (A : List ℕ) (t : IsSign (kind_in ws p)) where
-  sign_fails : (r d : ℕ) → r ≤ length ws → d ≤ 32 → Fails d (fixed LPAREN ∷ phrase Term ∷ fixed COMMA ∷ phrase Term ∷ fixed RPAREN ∷ []) (drop (p + 1) (seen ws)) 10 (drop r (seen ws)) → {B : List ℕ} → IsPrimary ws p n d A B (Refused 10 r)
+  sign_fails : (r d : ℕ) → r ≤ length ws → d ≤ 32 → Fails d (fixed LPAREN ∷ phrase Term ∷ fixed COMMA ∷ phrase Term ∷ fixed RPAREN ∷ []) (drop (p + 1) (seen ws)) 10 (drop r (seen ws)) → {B : List ℕ} → IsPrimary ws p n d A B (Err (NoProgram r))
   sign_fails r d i l f = refused i (fail! sign_before_rule l (sign_first ws p t.low t.high) f)
 
-  pub before_open : (kind_in ws (p + 1) ≡ 0 → ⊥) → {B : List ℕ} → (d : ℕ) → d ≤ 32 → IsPrimary ws p n d A B (Refused 10 (p + 1))
+  pub before_open : (kind_in ws (p + 1) ≡ 0 → ⊥) → {B : List ℕ} → (d : ℕ) → d ≤ 32 → IsPrimary ws p n d A B (Err (NoProgram (p + 1)))
   before_open f d l = let i = kind_within ws p (omega arith) in sign_fails (p + 1) d (omega arith) l (stop! (no_token! (not_key ws (p + 1) f)))
 
   module _ (e : kind_in ws (p + 1) ≡ 0) where
     opened : (d : ℕ) → d ≤ 32 → Reads d (fixed LPAREN ∷ []) (drop (p + 1) (seen ws)) (tt, tt) (drop (p + 2) (seen ws))
     opened d l = token! l (key_then ws (p + 1) (p + 2) (omega arith) e (omega arith))
 
-    pub before_first : leaf_in ws (p + 2) TERM ≡ 0 → {B : List ℕ} → (d : ℕ) → d ≤ 32 → IsPrimary ws p n d A B (Refused 10 (p + 2))
+    pub before_first : leaf_in ws (p + 2) TERM ≡ 0 → {B : List ℕ} → (d : ℕ) → d ≤ 32 → IsPrimary ws p n d A B (Err (NoProgram (p + 2)))
     before_first f d l = let i = kind_within ws (p + 1) (omega arith) in sign_fails (p + 2) d (omega arith) l (opened d l ▹ stop! (no_term! (no_term ws (p + 2) f)))
 
     module _ (f : leaf_in ws (p + 2) TERM ≡ 0 → ⊥) where
       one : (d : ℕ) → d ≤ 32 → Reads d (phrase Term ∷ []) (drop (p + 2) (seen ws)) ((a_term ws (p + 2) f).tree, tt) (drop (p + 3) (seen ws))
       one d l = let i : p + 2 + 1 ≡ p + 3 = omega arith in subst (λ j. Reads d (phrase Term ∷ []) (drop (p + 2) (seen ws)) ((a_term ws (p + 2) f).tree, tt) (drop j (seen ws))) i ((a_term ws (p + 2) f).reads d l)
 
-      pub before_comma : (kind_in ws (p + 3) ≡ COMMA → ⊥) → {B : List ℕ} → (d : ℕ) → d ≤ 32 → IsPrimary ws p n d A B (Refused 10 (p + 3))
+      pub before_comma : (kind_in ws (p + 3) ≡ COMMA → ⊥) → {B : List ℕ} → (d : ℕ) → d ≤ 32 → IsPrimary ws p n d A B (Err (NoProgram (p + 3)))
       before_comma g d l = let i = leaf_within ws (p + 2) TERM f in sign_fails (p + 3) d (omega arith) l (opened d l ▹ one d l ▹ stop! (no_token! (not_key ws (p + 3) g)))
 
       module _ (g : kind_in ws (p + 3) ≡ COMMA) where
         comma : (d : ℕ) → d ≤ 32 → Reads d (fixed COMMA ∷ []) (drop (p + 3) (seen ws)) (tt, tt) (drop (p + 4) (seen ws))
         comma d l = token! l (key_then ws (p + 3) (p + 4) (omega arith) g (omega arith))
 
-        pub before_second : leaf_in ws (p + 4) TERM ≡ 0 → {B : List ℕ} → (d : ℕ) → d ≤ 32 → IsPrimary ws p n d A B (Refused 10 (p + 4))
+        pub before_second : leaf_in ws (p + 4) TERM ≡ 0 → {B : List ℕ} → (d : ℕ) → d ≤ 32 → IsPrimary ws p n d A B (Err (NoProgram (p + 4)))
         before_second h d l = let i = kind_within ws (p + 3) (omega arith) in sign_fails (p + 4) d (omega arith) l (opened d l ▹ one d l ▹ comma d l ▹ stop! (no_term! (no_term ws (p + 4) h)))
 
         module _ (h : leaf_in ws (p + 4) TERM ≡ 0 → ⊥) where
           two : (d : ℕ) → d ≤ 32 → Reads d (phrase Term ∷ []) (drop (p + 4) (seen ws)) ((a_term ws (p + 4) h).tree, tt) (drop (p + 5) (seen ws))
           two d l = let i : p + 4 + 1 ≡ p + 5 = omega arith in subst (λ j. Reads d (phrase Term ∷ []) (drop (p + 4) (seen ws)) ((a_term ws (p + 4) h).tree, tt) (drop j (seen ws))) i ((a_term ws (p + 4) h).reads d l)
 
-          pub before_closed : (kind_in ws (p + 5) ≡ RPAREN → ⊥) → {B : List ℕ} → (d : ℕ) → d ≤ 32 → IsPrimary ws p n d A B (Refused 10 (p + 5))
+          pub before_closed : (kind_in ws (p + 5) ≡ RPAREN → ⊥) → {B : List ℕ} → (d : ℕ) → d ≤ 32 → IsPrimary ws p n d A B (Err (NoProgram (p + 5)))
           before_closed k d l = let i = leaf_within ws (p + 4) TERM h in sign_fails (p + 5) d (omega arith) l (opened d l ▹ one d l ▹ comma d l ▹ two d l ▹ stop! (no_token! (not_key ws (p + 5) k)))
 
-          pub before_reads : kind_in ws (p + 5) ≡ RPAREN → {B : List ℕ} → B ≡ sets A n (leaf_in ws (p + 2) TERM ∷ leaf_in ws (p + 4) TERM ∷ word ORDER n (kind_in ws p - 41) 0 ∷ []) → (d : ℕ) → d ≤ 32 → IsPrimary ws p n d A B (Read (p + 6) (n + 3))
+          pub before_reads : kind_in ws (p + 5) ≡ RPAREN → {B : List ℕ} → B ≡ sets A n (leaf_in ws (p + 2) TERM ∷ leaf_in ws (p + 4) TERM ∷ word ORDER n (kind_in ws p - 41) 0 ∷ []) → (d : ℕ) → d ≤ 32 → IsPrimary ws p n d A B (Ok (p + 6, n + 3))
           before_reads k x d l =
               let i = kind_within ws (p + 5) (omega arith) in
               let j = sign_code (kind_in ws p) t.low t.high in
@@ -168,7 +169,7 @@ module _ (ws : List ℕ) (p n : ℕ) (A : List ℕ) (t : IsSign (kind_in ws p)) 
 
 -- a term, a sign and a term
 module _ (ws : List ℕ) (p n : ℕ) (A : List ℕ) (t : leaf_in ws p TERM ≡ 0 → ⊥) (u : kind_in ws p ≡ 47 → kind_in ws (p + 1) ≡ 0 → ⊥) where
-  pub between_alone : (41 ≤ kind_in ws (p + 1) → kind_in ws (p + 1) ≤ 46 → ⊥) → {B : List ℕ} → (d : ℕ) → d ≤ 32 → IsPrimary ws p n d A B (Refused 10 (p + 1))
+  pub between_alone : (41 ≤ kind_in ws (p + 1) → kind_in ws (p + 1) ≤ 46 → ⊥) → {B : List ℕ} → (d : ℕ) → d ≤ 32 → IsPrimary ws p n d A B (Err (NoProgram (p + 1)))
   between_alone f d l = let i = leaf_within ws p TERM t in refused (omega arith) (by (which_leaf (kind_in ws p) p TERM t))
     where
       by : Leaf (kind_in ws p) TERM → Fails d (phrase Primary ∷ []) (drop p (seen ws)) 10 (drop (p + 1) (seen ws))
@@ -180,10 +181,10 @@ module _ (ws : List ℕ) (p n : ℕ) (A : List ℕ) (t : leaf_in ws p TERM ≡ 0
     signed : drop (p + 1) (seen ws) ≡ sign (sign_of (kind_in ws (p + 1))) ∷ drop (p + 2) (seen ws)
     signed = let i : p + 1 + 1 ≡ p + 2 = omega arith in sign_first ws (p + 1) low high ∙ ap (λ j. sign (sign_of (kind_in ws (p + 1))) ∷ drop j (seen ws)) i
 
-    pub between_second : leaf_in ws (p + 2) TERM ≡ 0 → {B : List ℕ} → (d : ℕ) → d ≤ 32 → IsPrimary ws p n d A B (Refused 10 (p + 2))
+    pub between_second : leaf_in ws (p + 2) TERM ≡ 0 → {B : List ℕ} → (d : ℕ) → d ≤ 32 → IsPrimary ws p n d A B (Err (NoProgram (p + 2)))
     between_second h d l = let i = kind_within ws (p + 1) (omega arith) in refused (omega arith) (between_fails! (a_term ws p t).tree l (a_term ws p t).tokens signed (no_term! (no_term ws (p + 2) h)))
 
-    pub between_reads : (h : leaf_in ws (p + 2) TERM ≡ 0 → ⊥) → {B : List ℕ} → B ≡ sets A n (leaf_in ws p TERM ∷ leaf_in ws (p + 2) TERM ∷ word ORDER n (kind_in ws (p + 1) - 41) 0 ∷ []) → (d : ℕ) → d ≤ 32 → IsPrimary ws p n d A B (Read (p + 3) (n + 3))
+    pub between_reads : (h : leaf_in ws (p + 2) TERM ≡ 0 → ⊥) → {B : List ℕ} → B ≡ sets A n (leaf_in ws p TERM ∷ leaf_in ws (p + 2) TERM ∷ word ORDER n (kind_in ws (p + 1) - 41) 0 ∷ []) → (d : ℕ) → d ≤ 32 → IsPrimary ws p n d A B (Ok (p + 3, n + 3))
     between_reads h x d l =
         let i = leaf_within ws (p + 2) TERM h in
         let j = sign_code (kind_in ws (p + 1)) low high in
@@ -198,7 +199,7 @@ module _ (ws : List ℕ) (p n : ℕ) (A : List ℕ) (t : leaf_in ws p TERM ≡ 0
         }
 
 -- no atom, and nothing that opens a level
-pub no_atom : (ws : List ℕ) (p n : ℕ) (A : List ℕ) → p ≤ length ws → Plain (kind_in ws p) → (kind_in ws p ≡ 14 → ⊥) → (kind_in ws p ≡ 39 → ⊥) → (kind_in ws p ≡ 40 → ⊥) → (41 ≤ kind_in ws p → kind_in ws p ≤ 46 → ⊥) → (kind_in ws p ≡ 47 → ⊥) → (kind_in ws p ≡ 48 → ⊥) → (kind_in ws p ≡ 49 → ⊥) → {B : List ℕ} → (d : ℕ) → d ≤ 32 → IsPrimary ws p n d A B (Refused 10 p)
+pub no_atom : (ws : List ℕ) (p n : ℕ) (A : List ℕ) → p ≤ length ws → Plain (kind_in ws p) → (kind_in ws p ≡ 14 → ⊥) → (kind_in ws p ≡ 39 → ⊥) → (kind_in ws p ≡ 40 → ⊥) → (41 ≤ kind_in ws p → kind_in ws p ≤ 46 → ⊥) → (kind_in ws p ≡ 47 → ⊥) → (kind_in ws p ≡ 48 → ⊥) → (kind_in ws p ≡ 49 → ⊥) → {B : List ℕ} → (d : ℕ) → d ≤ 32 → IsPrimary ws p n d A B (Err (NoProgram p))
 no_atom ws p n A h b any tru fal sig nam str pat d l =
     refused h (no_primary! (not_primary _ (not_name ws p nam) (not_string ws p str) (not_sign ws p sig) (not_key ws p b.group) (not_key ws p b.ex) (not_key ws p b.fa) (not_key ws p b.tc) (not_key ws p b.tcfast) (not_key ws p tru) (not_key ws p fal) (not_key ws p pat) (not_key ws p any)))
 

@@ -1,4 +1,5 @@
 -- A list of terms in brackets, read from left to right.
+use Rattle.std.specs.Prelude.{Ok, Err}
 use mathlib.Core.List.{List, [], ◌∷◌, ◌++◌, append_assoc}
 use mathlib.Core.Path.{◌≡◌, refl, sym, subst, ◌∙◌}
 use native.Mathlib.Omega.{arith}
@@ -8,7 +9,7 @@ use Rattle.definition.specs.Token.{COMMA, RPAREN}
 use Rattle.terms.proofs.LeafLaws.{leaf_within}
 use Rattle.terms.proofs.TokenLaws.{kind_within}
 use Rattle.terms.proofs.WriteLaws.{wrote_none, wrote_next}
-use Rattle.terms.specs.declared.Answer.TheVariants.{Read, Refused}
+use Rattle.terms.specs.declared.ParseError.TheVariants.{NoProgram}
 use Rattle.terms.specs.Phrases.{kind_in, Wrote}
 use Rattle.terms.specs.Terms.{leaf_in, Items, last_item, more_items, Broken, no_item, no_comma, later, no_items, items, IsListed}
 
@@ -28,17 +29,17 @@ pub run_starts : {ws : List ℕ} {k p n : ℕ} {A : List ℕ} → (kind_in ws p 
 run_starts {n = n} {A} h l = record { unclosed = h; sofar = []; on = λ r xs i. i; bad = λ r b. b; wrote = wrote_none A n; long = refl; used = omega arith; paid = refl; place = l }
 
 module _ {ws : List ℕ} {k p n : ℕ} {A A' : List ℕ} {q m : ℕ} (f : Run ws k p n A A' q m) where
-  pub run_none : leaf_in ws q k ≡ 0 → IsListed ws k p n A A' (Refused 10 q)
+  pub run_none : leaf_in ws q k ≡ 0 → IsListed ws k p n A A' (Err (NoProgram q))
   run_none e = record { is = record { ten = refl; unclosed = f.unclosed; broken = f.bad q (no_item e); within = f.place } }
 
   module _ (w : ℕ) (is : w ≡ leaf_in ws q k) (some : w ≡ 0 → ⊥) where
     there : leaf_in ws q k ≡ 0 → ⊥
     there e = some (is ∙ e)
 
-    pub run_stops : (kind_in ws (q + 1) ≡ RPAREN → ⊥) → (kind_in ws (q + 1) ≡ COMMA → ⊥) → {B : List ℕ} → IsListed ws k p n A B (Refused 10 (q + 1))
+    pub run_stops : (kind_in ws (q + 1) ≡ RPAREN → ⊥) → (kind_in ws (q + 1) ≡ COMMA → ⊥) → {B : List ℕ} → IsListed ws k p n A B (Err (NoProgram (q + 1)))
     run_stops g h = let l = leaf_within ws q k there in record { is = record { ten = refl; unclosed = f.unclosed; broken = f.bad (q + 1) (no_comma there g h); within = omega arith } }
 
-    pub run_ends : kind_in ws (q + 1) ≡ RPAREN → IsListed ws k p n A (set A' m w) (Read (q + 2) (m + 1))
+    pub run_ends : kind_in ws (q + 1) ≡ RPAREN → IsListed ws k p n A (set A' m w) (Ok (q + 2, m + 1))
     run_ends e =
         let l = kind_within ws (q + 1) (omega arith) in
         record {
@@ -68,7 +69,7 @@ module _ {ws : List ℕ} {k p n : ℕ} {A A' : List ℕ} {q m : ℕ} (f : Run ws
           place = omega arith;
         }
 
-pub run_empty : {ws : List ℕ} {k p n : ℕ} {A : List ℕ} → kind_in ws p ≡ RPAREN → IsListed ws k p n A A (Read (p + 1) n)
+pub run_empty : {ws : List ℕ} {k p n : ℕ} {A : List ℕ} → kind_in ws p ≡ RPAREN → IsListed ws k p n A A (Ok (p + 1, n))
 run_empty {ws} {k} {p} {n} {A} e =
     let l = kind_within ws p (omega arith) in
     record { is = record { words = []; brackets = no_items e; wrote = wrote_none A n; more = omega arith; far = omega arith; paid = omega arith; within = omega arith } }

@@ -1,4 +1,5 @@
 -- A pattern and its term: their words, and how the grammar reads them.
+use Rattle.std.specs.Prelude.{Ok, Err}
 use mathlib.Core.List.{List, [], ◌∷◌}
 use mathlib.Core.Path.{◌≡◌, refl, sym, subst}
 use native.Mathlib.Omega.{arith}
@@ -15,7 +16,7 @@ use Rattle.terms.proofs.AtomLaws.{refused}
 use Rattle.terms.proofs.LeafLaws.{a_term, no_term, leaf_within}
 use Rattle.terms.proofs.TokenLaws.{kind_within, key_then, mark_first, string_then, string_number, not_key, not_string}
 use Rattle.terms.proofs.WriteLaws.{wrote_as}
-use Rattle.terms.specs.declared.Answer.TheVariants.{Read, Refused}
+use Rattle.terms.specs.declared.ParseError.TheVariants.{NoProgram}
 use Rattle.terms.specs.Phrases.{kind_in, seen, IsPrimary}
 use Rattle.terms.specs.Terms.{leaf_in}
 use Rattle.words.specs.Fields.{word, TERM, MATCH, DISJUNCTION}
@@ -31,34 +32,34 @@ pattern_words ts s n x a e f =
     sym (simp (e, f, i, j))
 
 module _ (ws : List ℕ) (p n : ℕ) (A : List ℕ) (t : kind_in ws p ≡ 49) where
-  pattern_fails : (q d : ℕ) → q ≤ length ws → d ≤ 32 → Fails d (any_string ∷ fixed LPAREN ∷ phrase Term ∷ fixed RPAREN ∷ []) (drop (p + 1) (seen ws)) 10 (drop q (seen ws)) → {B : List ℕ} → IsPrimary ws p n d A B (Refused 10 q)
+  pattern_fails : (q d : ℕ) → q ≤ length ws → d ≤ 32 → Fails d (any_string ∷ fixed LPAREN ∷ phrase Term ∷ fixed RPAREN ∷ []) (drop (p + 1) (seen ws)) 10 (drop q (seen ws)) → {B : List ℕ} → IsPrimary ws p n d A B (Err (NoProgram q))
   pattern_fails q d h l f = refused h (fail! pattern_rule l (mark_first ws p t (omega arith) (omega arith)) f)
 
-  pub pattern_missing : (kind_in ws (p + 1) ≡ 48 → ⊥) → {B : List ℕ} → (d : ℕ) → d ≤ 32 → IsPrimary ws p n d A B (Refused 10 (p + 1))
+  pub pattern_missing : (kind_in ws (p + 1) ≡ 48 → ⊥) → {B : List ℕ} → (d : ℕ) → d ≤ 32 → IsPrimary ws p n d A B (Err (NoProgram (p + 1)))
   pattern_missing f d l = let i = kind_within ws p (omega arith) in pattern_fails (p + 1) d (omega arith) l (stop! (no_string! (not_string ws (p + 1) f)))
 
   module _ (s : kind_in ws (p + 1) ≡ 48) where
     spelled : (d : ℕ) → d ≤ 32 → Reads d (any_string ∷ []) (drop (p + 1) (seen ws)) (p + 1, tt) (drop (p + 2) (seen ws))
     spelled d l = string! l (string_then ws (p + 1) (p + 2) (omega arith) s)
 
-    pub pattern_open : (kind_in ws (p + 2) ≡ LPAREN → ⊥) → {B : List ℕ} → (d : ℕ) → d ≤ 32 → IsPrimary ws p n d A B (Refused 10 (p + 2))
+    pub pattern_open : (kind_in ws (p + 2) ≡ LPAREN → ⊥) → {B : List ℕ} → (d : ℕ) → d ≤ 32 → IsPrimary ws p n d A B (Err (NoProgram (p + 2)))
     pattern_open f d l = let i = kind_within ws (p + 1) (omega arith) in pattern_fails (p + 2) d (omega arith) l (spelled d l ▹ stop! (no_token! (not_key ws (p + 2) f)))
 
     module _ (e : kind_in ws (p + 2) ≡ LPAREN) where
       opened : (d : ℕ) → d ≤ 32 → Reads d (fixed LPAREN ∷ []) (drop (p + 2) (seen ws)) (tt, tt) (drop (p + 3) (seen ws))
       opened d l = token! l (key_then ws (p + 2) (p + 3) (omega arith) e (omega arith))
 
-      pub pattern_term : leaf_in ws (p + 3) TERM ≡ 0 → {B : List ℕ} → (d : ℕ) → d ≤ 32 → IsPrimary ws p n d A B (Refused 10 (p + 3))
+      pub pattern_term : leaf_in ws (p + 3) TERM ≡ 0 → {B : List ℕ} → (d : ℕ) → d ≤ 32 → IsPrimary ws p n d A B (Err (NoProgram (p + 3)))
       pattern_term f d l = let i = kind_within ws (p + 2) (omega arith) in pattern_fails (p + 3) d (omega arith) l (spelled d l ▹ opened d l ▹ stop! (no_term! (no_term ws (p + 3) f)))
 
       module _ (f : leaf_in ws (p + 3) TERM ≡ 0 → ⊥) where
         one : (d : ℕ) → d ≤ 32 → Reads d (phrase Term ∷ []) (drop (p + 3) (seen ws)) ((a_term ws (p + 3) f).tree, tt) (drop (p + 4) (seen ws))
         one d l = let i : p + 3 + 1 ≡ p + 4 = omega arith in subst (λ j. Reads d (phrase Term ∷ []) (drop (p + 3) (seen ws)) ((a_term ws (p + 3) f).tree, tt) (drop j (seen ws))) i ((a_term ws (p + 3) f).reads d l)
 
-        pub pattern_closed : (kind_in ws (p + 4) ≡ RPAREN → ⊥) → {B : List ℕ} → (d : ℕ) → d ≤ 32 → IsPrimary ws p n d A B (Refused 10 (p + 4))
+        pub pattern_closed : (kind_in ws (p + 4) ≡ RPAREN → ⊥) → {B : List ℕ} → (d : ℕ) → d ≤ 32 → IsPrimary ws p n d A B (Err (NoProgram (p + 4)))
         pattern_closed k d l = let i = leaf_within ws (p + 3) TERM f in pattern_fails (p + 4) d (omega arith) l (spelled d l ▹ opened d l ▹ one d l ▹ stop! (no_token! (not_key ws (p + 4) k)))
 
-        pub pattern_reads : kind_in ws (p + 4) ≡ RPAREN → {B : List ℕ} → B ≡ sets A n (leaf_in ws (p + 3) TERM ∷ word MATCH (p + 1) 0 n ∷ word MATCH (p + 1) 32 n ∷ word DISJUNCTION (n + 1) (n + 2) 0 ∷ []) → (d : ℕ) → d ≤ 32 → IsPrimary ws p n d A B (Read (p + 5) (n + 4))
+        pub pattern_reads : kind_in ws (p + 4) ≡ RPAREN → {B : List ℕ} → B ≡ sets A n (leaf_in ws (p + 3) TERM ∷ word MATCH (p + 1) 0 n ∷ word MATCH (p + 1) 32 n ∷ word DISJUNCTION (n + 1) (n + 2) 0 ∷ []) → (d : ℕ) → d ≤ 32 → IsPrimary ws p n d A B (Ok (p + 5, n + 4))
         pattern_reads k x d l =
             let i = kind_within ws (p + 4) (omega arith) in
             record {

@@ -1,4 +1,5 @@
 -- What the kind of a token says of what the grammar sees from there on.
+use Rattle.std.specs.Prelude.{Ok, Err}
 use Rattle.std.specs.Prelude.{if◌then◌else◌}
 use mathlib.Core.List.{List, [], ◌∷◌, map}
 use mathlib.Core.Bool.{Bool, true, false}
@@ -12,9 +13,8 @@ use Rattle.definition.proofs.GrammarReads.{Next, nothing, a_name, a_string, a_nu
 use Rattle.definition.proofs.GrammarExpressions.{begins_quantity, not_quantity}
 use Rattle.definition.specs.Token as Token
 use Rattle.definition.specs.Token.{Sign, equal, unequal, less, at_most, greater, at_least, Terminal, name, string, sign, key, Token, terminals, token_at}
-use Rattle.terms.specs.declared.Answer.{Answer}
-use Rattle.terms.specs.declared.Answer.TheVariants.{Read, Refused}
-use Rattle.terms.specs.Phrases.{kind_in, seen, closed, Holds}
+use Rattle.terms.specs.declared.ParseError.TheVariants.{NoProgram}
+use Rattle.terms.specs.Phrases.{Answer, kind_in, seen, closed, Holds}
 use Rattle.terms.specs.Terms.{FirstOfQuantity, a_count, a_literal, a_large_literal, NoQuantity}
 use Rattle.words.specs.Raw.{number, sign_number}
 use Rattle.lexer.specs.Tokens.{terminal_of, terminals_of, sign_of, kind_of, at_of}
@@ -208,10 +208,10 @@ module _ (ws : List ℕ) (p : ℕ) where
   begins_none h = not_quantity (next (drop p (seen ws))) (not_number h.no_literal h.no_large_literal) (not_key h.no_count)
 
 -- the closing token is there or it is not
-pub closed_cases : (P : Answer → Type 0) (ws : List ℕ) (k q m : ℕ) → (kind_in ws q ≡ k → P (Read (q + 1) m)) → ((kind_in ws q ≡ k → ⊥) → P (Refused 10 q)) → P (closed ws k (Read q m))
+pub closed_cases : (P : Answer → Type 0) (ws : List ℕ) (k q m : ℕ) → (kind_in ws q ≡ k → P (Ok (q + 1, m))) → ((kind_in ws q ≡ k → ⊥) → P (Err (NoProgram q))) → P (closed ws k (Ok (q, m)))
 closed_cases P ws k q m there absent = at (eqb (kind_in ws q) k) refl
   where
-    at : (b : Bool) → eqb (kind_in ws q) k ≡ b → P (if b then (Read (q + 1) m) else (Refused 10 q))
+    at : (b : Bool) → eqb (kind_in ws q) k ≡ b → P (if b then (Ok (q + 1, m)) else (Err (NoProgram q)))
     at true e = there (eqb-true (kind_in ws q) k e)
     at false e = absent (eqb-false (kind_in ws q) k e)
 

@@ -1,5 +1,5 @@
 -- What a function that reads a phrase answers: the tree that the definition's reader has there, with its words written, or its refusal.
-use Rattle.std.specs.Prelude.{List, [], ◌∷◌, map, ◌≡◌, ℕ, zero, suc, ◌+◌, ◌≤◌, ◌<◌, eqb, length, drop, if◌then◌else◌}
+use Rattle.std.specs.Prelude.{Result, Ok, Err, List, [], ◌∷◌, map, ◌≡◌, ℕ, zero, suc, ◌+◌, ◌≤◌, ◌<◌, eqb, length, drop, if◌then◌else◌}
 use Rattle.std.proofs.lemmas.List.Edits.{sets}
 use Rattle.definition.proofs.GrammarReads.{Reads, Fails}
 use Rattle.definition.specs.Grammar.{Nonterminal, Tree, Expression, Implication, Disjunction, Conjunction, Negation, Primary, Quantity}
@@ -7,10 +7,25 @@ use Rattle.definition.specs.Reader.{phrase}
 use Rattle.definition.specs.Syntax as Syntax
 use Rattle.definition.specs.Syntax.{says}
 use Rattle.definition.specs.Token.{Terminal, Token, terminals}
-use Rattle.terms.specs.declared.Answer.{Answer}
-use Rattle.terms.specs.declared.Answer.TheVariants.{Read, Refused}
+use Rattle.terms.specs.declared.ParseError.{ParseError}
+use Rattle.terms.specs.declared.ParseError.TheVariants.{NoProgram, TooMuch, Number}
 use Rattle.words.specs.Raw.{flat}
 use Rattle.lexer.specs.Tokens.{terminals_of, kind_of, at_of}
+
+-- the next token and the number of words, or why there is no phrase
+abbrev pub Answer : Type 0
+Answer = Result (ℕ × ℕ) ParseError
+
+-- the row of a refusal, and its token
+abbrev pub row_of : ParseError → ℕ
+row_of (NoProgram q) = 10
+row_of (TooMuch q) = 13
+row_of (Number q) = 19
+
+abbrev pub token_of : ParseError → ℕ
+token_of (NoProgram q) = q
+token_of (TooMuch q) = q
+token_of (Number q) = q
 
 -- the words hold these tokens, their texts aside
 pub record Holds (ws : List ℕ) (ts : List Token) : Type 0 where
@@ -29,8 +44,8 @@ kind_in (w ∷ ws) (suc p) = kind_in ws p
 
 -- after the closing token, of kind k
 abbrev pub closed : List ℕ → ℕ → Answer → Answer
-closed ws k (Read q m) = if eqb (kind_in ws q) k then (Read (q + 1) m) else (Refused 10 q)
-closed ws k (Refused row q) = Refused row q
+closed ws k (Ok (q, m)) = if eqb (kind_in ws q) k then (Ok (q + 1, m)) else (Err (NoProgram q))
+closed ws k (Err e) = Err e
 
 -- where a function that reads may be called: at a token, with no more words written than tokens read
 pub record Room (ws : List ℕ) (M p n d : ℕ) : Type 0 where
@@ -56,8 +71,8 @@ pub record Got (x : Nonterminal) (e : Meaning x) (ws : List ℕ) (ts : List Toke
   pub wrote : Wrote A n (flat (e ts tree) n) m A'
 
 abbrev pub parsed : (x : Nonterminal) → Meaning x → List ℕ → List Token → ℕ → ℕ → ℕ → List ℕ → List ℕ → Answer → Type 0
-parsed x e ws ts p n d A A' (Read q m) = Got x e ws ts p n d A A' q m
-parsed x e ws ts p n d A A' (Refused row q) = Fails d (phrase x ∷ []) (drop p (seen ws)) row (drop q (seen ws))
+parsed x e ws ts p n d A A' (Ok (q, m)) = Got x e ws ts p n d A A' q m
+parsed x e ws ts p n d A A' (Err r) = Fails d (phrase x ∷ []) (drop p (seen ws)) (row_of r) (drop (token_of r) (seen ws))
 
 -- how far: each token that is read pays for a word
 pub record Paid (ws : List ℕ) (p n q m : ℕ) : Type 0 where
@@ -66,8 +81,8 @@ pub record Paid (ws : List ℕ) (p n q m : ℕ) : Type 0 where
   pub within : q ≤ length ws
 
 abbrev pub far : List ℕ → ℕ → ℕ → Answer → Type 0
-far ws p n (Read q m) = Paid ws p n q m
-far ws p n (Refused row q) = q ≤ length ws
+far ws p n (Ok (q, m)) = Paid ws p n q m
+far ws p n (Err e) = token_of e ≤ length ws
 
 -- the answer for a phrase x of an expression from token p on, at level d, where n words are written
 pub record Parsed (x : Nonterminal) (e : Meaning x) (ws : List ℕ) (p n d : ℕ) (A A' : List ℕ) (r : Answer) : Type 0 where

@@ -1,9 +1,7 @@
 -- Terms, and lists of them in brackets.
-use Rattle.std.specs.Prelude.{Bool, true, false, List, [], ◌∷◌, ◌≡◌, ℕ, ◌+◌, ◌*◌, ◌≤◌, ◌<◌, eqb, length, if◌then◌else◌}
+use Rattle.std.specs.Prelude.{Ok, Err, Bool, true, false, List, [], ◌∷◌, ◌≡◌, ℕ, ◌+◌, ◌*◌, ◌≤◌, ◌<◌, eqb, length, if◌then◌else◌}
 use Rattle.definition.specs.Token.{UNDERSCORE, COMMA, LPAREN, RPAREN, EX, FA, TC, TCFAST, TRUE, FALSE, HASH}
-use Rattle.terms.specs.declared.Answer.{Answer}
-use Rattle.terms.specs.declared.Answer.TheVariants.{Read, Refused}
-use Rattle.terms.specs.Phrases.{kind_in, Wrote}
+use Rattle.terms.specs.Phrases.{Answer, row_of, token_of, kind_in, Wrote}
 use Rattle.words.specs.Fields as Fields
 use Rattle.words.specs.Fields.{word, TERM, ANYTHING, TRUTH, FALSITY}
 use Rattle.lexer.specs.Tokens.{NAME, STRING, NUMBER, LARGE_NUMBER}
@@ -52,8 +50,8 @@ pub record Unlisted (ws : List ℕ) (k p q row : ℕ) : Type 0 where
   pub within : q ≤ length ws
 
 abbrev pub listed : List ℕ → ℕ → ℕ → ℕ → List ℕ → List ℕ → Answer → Type 0
-listed ws k p n A A' (Read q m) = Listed ws k p n A A' q m
-listed ws k p n A A' (Refused row q) = Unlisted ws k p q row
+listed ws k p n A A' (Ok (q, m)) = Listed ws k p n A A' q m
+listed ws k p n A A' (Err e) = Unlisted ws k p (token_of e) (row_of e)
 
 pub record IsListed (ws : List ℕ) (k p n : ℕ) (A A' : List ℕ) (r : Answer) : Type 0 where
   pub is : listed ws k p n A A' r

@@ -10,12 +10,17 @@ ghost use Rattle.words.specs.Fields.{word};
 
 use words::pack;
 
-// What a function that reads a phrase answers: the next token and how many words stand in the array; or the row of the refusal and its token.
+// Why no phrase is read, with the token at which that shows: no program goes on there (row 10), the levels are too many (row 13), or a
+// number or a summand is (row 19).
 #[derive(Clone, Copy)]
-pub enum Answer {
-    Read(usize, usize),
-    Refused(usize, usize),
+pub enum ParseError {
+    NoProgram(usize),
+    TooMuch(usize),
+    Number(usize),
 }
+
+// What a function that reads a phrase answers: the next token and how many words stand in the array.
+pub type Answer = Result<(usize, usize), ParseError>;
 
 // The kind of the token at p; 64 past the last.
 pub fn kind_at(tokens: &[u64], p: usize) -> u64
@@ -44,15 +49,11 @@ pub fn close(tokens: &[u64], kind: u64, a: Answer) -> Answer
     requires { kind < 64 }
     ensures { result ≡ closed tokens.now kind a }
 {
-    match a {
-        Answer::Read(q, m) => {
-            if kind_at(tokens, q) == kind {
-                Answer::Read(q + 1, m)
-            } else {
-                Answer::Refused(10, q)
-            }
-        }
-        Answer::Refused(row, q) => Answer::Refused(row, q),
+    let (q, m) = a?;
+    if kind_at(tokens, q) == kind {
+        Ok((q + 1, m))
+    } else {
+        Err(ParseError::NoProgram(q))
     }
 }
 
@@ -82,23 +83,23 @@ pub fn list(tokens: &[u64], words: &mut [u64], p: usize, n: usize, kind: u64) ->
     ensures { IsListed tokens.now kind p n words.old words.new result }
 {
     if kind_at(tokens, p) == 1 {
-        return Answer::Read(p + 1, n);
+        return Ok((p + 1, n));
     }
     let mut q = p;
     let mut m = n;
     loop {
         let w = leaf_at(tokens, q, kind);
         if w == 0 {
-            return Answer::Refused(10, q);
+            return Err(ParseError::NoProgram(q));
         }
         words[m] = w;
         m += 1;
         let k = kind_at(tokens, q + 1);
         if k == 1 {
-            return Answer::Read(q + 2, m);
+            return Ok((q + 2, m));
         }
         if k != 6 {
-            return Answer::Refused(10, q + 1);
+            return Err(ParseError::NoProgram(q + 1));
         }
         q += 2;
     }
@@ -109,14 +110,11 @@ fn relation(tokens: &[u64], words: &mut [u64], p: usize, n: usize) -> Answer
     requires { (kind_in tokens.now p ≡ 47) × ((kind_in tokens.now (p + 1) ≡ 0) × Room tokens.now (length words.old) p n 0) }
     ensures { (d : ℕ) → d ≤ 32 → IsPrimary tokens.now p n d words.old words.new result }
 {
-    let a = list(tokens, words, p + 2, n + 1, 3);
-    let Answer::Read(q, m) = a else {
-        return a;
-    };
+    let (q, m) = list(tokens, words, p + 2, n + 1, 3)?;
     let k = (m - n - 1) as u64;
     words[n] = pack(1, p as u64, k, 0);
     words[m] = pack(10, n as u64, k, 0);
-    Answer::Read(q, m + 1)
+    Ok((q, m + 1))
 }
 
 // TRUE or FALSE at p: the terms, and the word over them, of the given kind.
@@ -125,14 +123,11 @@ fn truth(tokens: &[u64], words: &mut [u64], p: usize, n: usize, kind: u64) -> An
     ensures { (d : ℕ) → d ≤ 32 → IsPrimary tokens.now p n d words.old words.new result }
 {
     if kind_at(tokens, p + 1) != 0 {
-        return Answer::Refused(10, p + 1);
+        return Err(ParseError::NoProgram(p + 1));
     }
-    let a = list(tokens, words, p + 2, n, 3);
-    let Answer::Read(q, m) = a else {
-        return a;
-    };
+    let (q, m) = list(tokens, words, p + 2, n, 3)?;
     words[m] = pack(kind, n as u64, (m - n) as u64, 0);
-    Answer::Read(q, m + 1)
+    Ok((q, m + 1))
 }
 
 // Two terms, and the comparison over them by a sign of a kind.
@@ -151,25 +146,25 @@ fn sign_before(tokens: &[u64], words: &mut [u64], p: usize, n: usize) -> Answer
     ensures { (d : ℕ) → d ≤ 32 → IsPrimary tokens.now p n d words.old words.new result }
 {
     if kind_at(tokens, p + 1) != 0 {
-        return Answer::Refused(10, p + 1);
+        return Err(ParseError::NoProgram(p + 1));
     }
     let x = leaf_at(tokens, p + 2, 3);
     if x == 0 {
-        return Answer::Refused(10, p + 2);
+        return Err(ParseError::NoProgram(p + 2));
     }
     if kind_at(tokens, p + 3) != 6 {
-        return Answer::Refused(10, p + 3);
+        return Err(ParseError::NoProgram(p + 3));
     }
     let y = leaf_at(tokens, p + 4, 3);
     if y == 0 {
-        return Answer::Refused(10, p + 4);
+        return Err(ParseError::NoProgram(p + 4));
     }
     if kind_at(tokens, p + 5) != 1 {
-        return Answer::Refused(10, p + 5);
+        return Err(ParseError::NoProgram(p + 5));
     }
     let g = kind_at(tokens, p);
     order(words, n, x, y, g);
-    Answer::Read(p + 6, n + 3)
+    Ok((p + 6, n + 3))
 }
 
 // A term at p, a sign and a term; a name is not before a bracket.
@@ -180,17 +175,17 @@ fn sign_between(tokens: &[u64], words: &mut [u64], p: usize, n: usize) -> Answer
     let x = leaf_at(tokens, p, 3);
     let g = kind_at(tokens, p + 1);
     if g < 41 {
-        return Answer::Refused(10, p + 1);
+        return Err(ParseError::NoProgram(p + 1));
     }
     if g > 46 {
-        return Answer::Refused(10, p + 1);
+        return Err(ParseError::NoProgram(p + 1));
     }
     let y = leaf_at(tokens, p + 2, 3);
     if y == 0 {
-        return Answer::Refused(10, p + 2);
+        return Err(ParseError::NoProgram(p + 2));
     }
     order(words, n, x, y, g);
-    Answer::Read(p + 3, n + 3)
+    Ok((p + 3, n + 3))
 }
 
 // A term, each half of the elements that match the pattern of token s, and the disjunction over both halves.
@@ -210,20 +205,20 @@ fn pattern(tokens: &[u64], words: &mut [u64], p: usize, n: usize) -> Answer
     ensures { (d : ℕ) → d ≤ 32 → IsPrimary tokens.now p n d words.old words.new result }
 {
     if kind_at(tokens, p + 1) != 48 {
-        return Answer::Refused(10, p + 1);
+        return Err(ParseError::NoProgram(p + 1));
     }
     if kind_at(tokens, p + 2) != 0 {
-        return Answer::Refused(10, p + 2);
+        return Err(ParseError::NoProgram(p + 2));
     }
     let x = leaf_at(tokens, p + 3, 3);
     if x == 0 {
-        return Answer::Refused(10, p + 3);
+        return Err(ParseError::NoProgram(p + 3));
     }
     if kind_at(tokens, p + 4) != 1 {
-        return Answer::Refused(10, p + 4);
+        return Err(ParseError::NoProgram(p + 4));
     }
     halves(words, n, x, p + 1);
-    Answer::Read(p + 5, n + 4)
+    Ok((p + 5, n + 4))
 }
 
 // A name's atom: its terms in brackets, or its comparison with a term.
@@ -250,6 +245,6 @@ pub fn atom(tokens: &[u64], words: &mut [u64], p: usize, n: usize) -> Answer
         41..=46 => sign_before(tokens, words, p, n),
         47 => named(tokens, words, p, n),
         49 => pattern(tokens, words, p, n),
-        _ => Answer::Refused(10, p),
+        _ => Err(ParseError::NoProgram(p)),
     }
 }

@@ -48,3 +48,6 @@ pub name_good : (w : Text) → 0 < length w → length w ≤ 32 → is_letter (g
 unfolding is_name
 name_good [] h g l p q u m = absurd (omega arith)
 name_good (x ∷ xs) h g l p q u m = rw (l, all_span is_part xs (omega arith), le-leb (length xs) 31 (omega arith), u, m)
+
+-- the tests, for the goals of the function
+pub ruleset tests = (name_empty, name_long, name_first, name_part, name_any, name_reserved, name_good)

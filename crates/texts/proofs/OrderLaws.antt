@@ -1,103 +1,79 @@
--- How the order and the equality of two texts go on at one place of both.
-use Prim.Native.Nat.{ℕ, ◌+◌, ◌<◌, ◌≤◌}
-use mathlib.Core.Path.{◌≡◌, refl, sym}
+-- The order and the equality of two texts, as the library compares slices, and what the order says.
+use Prim.Native.Nat.{ℕ}
+use mathlib.Core.Path.{◌≡◌, refl, ap}
 use mathlib.Core.List.{[], ◌∷◌}
-use mathlib.Core.Bool.{Bool, true, false, ◌&&◌, cond, and-false, and-true}
-use native.Mathlib.Numerals.{add-one}
+use mathlib.Core.Bool.{Bool, true, false, ◌&&◌, cond}
 use native.Mathlib.Omega.{arith}
-use lib.Dec.{eqb}
-use lib.ListN.{length, get_or, drop, drop_of_length-le}
-use lib.Seq.{drop-cons}
-use borrow.Author.Tests.{lt-ltb, le-ltb, eq-eqb, ne_eqb}
+use lib.Dec.{eqb, ltb}
+use lib.ListN.{take}
+use borrow.Author.Tests.{eqb-true, ltb-true}
+use Rattle.std.specs.Prelude.{nat_eq}
+use Rattle.std.specs.Cmp.Lexicographic.{pointwise, slice_cmp}
+use Rattle.std.specs.Ordering.{ordering_then, nat_cmp}
+use Rattle.std.specs.declared.cmp.Ordering.{Ordering}
+use Rattle.std.specs.declared.cmp.Ordering.TheVariants.{Less, Equal, Greater}
 use Rattle.definition.specs.Text.{Text, same, earlier, starts}
 use Rattle.texts.specs.Orders.{order}
-use Rattle.texts.specs.declared.Order.{Order}
-use Rattle.texts.specs.declared.Order.TheVariants.{Before, Same, After}
 
-module _ (s t : Text) (i : ℕ) where
-  pub order_less : i < length s → i < length t → get_or s i 0 < get_or t i 0 → order (drop i s) (drop i t) ≡ Before
-  unfolding order same earlier
-  order_less hs ht h = rw (drop-cons s i 0, drop-cons t i 0, ne_eqb (get_or s i 0) (get_or t i 0) (λ e. omega arith), lt-ltb (get_or s i 0) (get_or t i 0))
-
-  pub order_greater : i < length s → i < length t → get_or t i 0 < get_or s i 0 → order (drop i s) (drop i t) ≡ After
-  unfolding order same earlier
-  order_greater hs ht h =
-      let g : get_or t i 0 ≤ get_or s i 0 = omega arith in
-      rw (drop-cons s i 0, drop-cons t i 0, ne_eqb (get_or s i 0) (get_or t i 0) (λ e. omega arith), le-ltb (get_or s i 0) (get_or t i 0))
-
-  pub order_equal : i < length s → i < length t → get_or s i 0 ≡ get_or t i 0 → order (drop i s) (drop i t) ≡ order (drop (i + 1) s) (drop (i + 1) t)
-  unfolding order same earlier
-  order_equal hs ht h = rw (drop-cons s i 0, drop-cons t i 0, eq-eqb (get_or s i 0) (get_or t i 0) h, add-one)
-
-  pub order_after : i < length s → length t ≤ i → order (drop i s) (drop i t) ≡ After
-  unfolding order same earlier
-  order_after hs ht = rw (drop-cons s i 0, drop_of_length-le t)
-
-  pub order_before : length s ≤ i → i < length t → order (drop i s) (drop i t) ≡ Before
-  unfolding order same earlier
-  order_before hs ht = rw (drop_of_length-le s, drop-cons t i 0)
-
-  pub order_same : length s ≤ i → length t ≤ i → order (drop i s) (drop i t) ≡ Same
-  unfolding order same earlier
-  order_same hs ht = rw (drop_of_length-le s, drop_of_length-le t)
-
-  pub same_step : i < length s → i < length t → same (drop i s) (drop i t) ≡ eqb (get_or s i 0) (get_or t i 0) && same (drop (i + 1) s) (drop (i + 1) t)
-  unfolding same
-  same_step hs ht = rw (drop-cons s i 0, drop-cons t i 0, add-one)
-
-  pub same_end : length s ≤ i → length t ≤ i → same (drop i s) (drop i t) ≡ true
-  unfolding same
-  same_end hs ht = rw (drop_of_length-le s, drop_of_length-le t)
-
-pub same_length : (s t : Text) → (length s ≡ length t → ⊥) → same s t ≡ false
+-- the library's equality and order of two slices of bytes
+pub same_bytes : (s t : Text) → pointwise nat_eq s t ≡ same s t
 unfolding same
-same_length [] [] h = absurd (h refl)
-same_length [] (y ∷ ys) h = refl
-same_length (x ∷ xs) [] h = refl
-same_length (x ∷ xs) (y ∷ ys) h = rw (same_length xs ys (λ e. h (rw e))) (and-false (eqb x y))
+same_bytes [] [] = refl
+same_bytes [] (y ∷ ys) = refl
+same_bytes (x ∷ xs) [] = refl
+same_bytes (x ∷ xs) (y ∷ ys) = ap (λ (r : Bool). eqb x y && r) (same_bytes xs ys)
+
+pub order_bytes : (s t : Text) → slice_cmp nat_cmp s t ≡ order s t
+unfolding order same earlier
+order_bytes [] [] = refl
+order_bytes [] (y ∷ ys) = refl
+order_bytes (x ∷ xs) [] = refl
+order_bytes (x ∷ xs) (y ∷ ys) = go (eqb x y) (ltb x y) refl refl (order_bytes xs ys)
+  where
+    go : (a b : Bool) → eqb x y ≡ a → ltb x y ≡ b → slice_cmp nat_cmp xs ys ≡ order xs ys
+        → ordering_then (cond b Less (cond a Equal Greater)) (slice_cmp nat_cmp xs ys) ≡ cond (a && same xs ys) Equal (cond (cond a (earlier xs ys) b) Less Greater)
+    go true true e l ih = absurd (omega (arith, eqb-true x y e, ltb-true x y l))
+    go true false e l ih = ih
+    go false true e l ih = refl
+    go false false e l ih = refl
 
 -- what an order says of equality and of the definition's byte order
-by_tests : Bool → Bool → Order
-by_tests a b = cond a Same (cond b Before After)
+by_tests : Bool → Bool → Ordering
+by_tests a b = cond a Equal (cond b Less Greater)
 
-tests_same : (a b : Bool) → by_tests a b ≡ Same → a ≡ true
+tests_same : (a b : Bool) → by_tests a b ≡ Equal → a ≡ true
 unfolding by_tests
 tests_same true b e = refl
 tests_same false true e = let z : ◌≡◌ {A = ℕ} 0 1 = cc in absurd (omega arith)
 tests_same false false e = let z : ◌≡◌ {A = ℕ} 0 1 = cc in absurd (omega arith)
 
-tests_before : (a b : Bool) → by_tests a b ≡ Before → (a ≡ false) × (b ≡ true)
+tests_before : (a b : Bool) → by_tests a b ≡ Less → (a ≡ false) × (b ≡ true)
 unfolding by_tests
 tests_before true b e = let z : ◌≡◌ {A = ℕ} 0 1 = cc in absurd (omega arith)
 tests_before false true e = (refl, refl)
 tests_before false false e = let z : ◌≡◌ {A = ℕ} 0 1 = cc in absurd (omega arith)
 
-tests_after : (a b : Bool) → by_tests a b ≡ After → (a ≡ false) × (b ≡ false)
+tests_after : (a b : Bool) → by_tests a b ≡ Greater → (a ≡ false) × (b ≡ false)
 unfolding by_tests
 tests_after true b e = let z : ◌≡◌ {A = ℕ} 0 1 = cc in absurd (omega arith)
 tests_after false true e = let z : ◌≡◌ {A = ℕ} 0 1 = cc in absurd (omega arith)
 tests_after false false e = (refl, refl)
 
 module _ (s t : Text) where
-  pub is_same : order s t ≡ Same → same s t ≡ true
+  pub is_same : order s t ≡ Equal → same s t ≡ true
   unfolding order by_tests
   is_same e = tests_same (same s t) (earlier s t) e
 
-  pub is_before : order s t ≡ Before → (same s t ≡ false) × (earlier s t ≡ true)
+  pub is_before : order s t ≡ Less → (same s t ≡ false) × (earlier s t ≡ true)
   unfolding order by_tests
   is_before e = tests_before (same s t) (earlier s t) e
 
-  pub is_after : order s t ≡ After → (same s t ≡ false) × (earlier s t ≡ false)
+  pub is_after : order s t ≡ Greater → (same s t ≡ false) × (earlier s t ≡ false)
   unfolding order by_tests
   is_after e = tests_after (same s t) (earlier s t) e
 
--- the first byte of a text
-pub starts_empty : (b : ℕ) (l : Text) → length l ≡ 0 → false ≡ starts (b ∷ []) l
+-- the first byte of a text, by the library's test
+pub starts_byte : (b : ℕ) (l : Text) → pointwise nat_eq (b ∷ []) (take 1 l) ≡ starts (b ∷ []) l
 unfolding starts
-starts_empty b [] h = refl
-starts_empty b (x ∷ l) h = absurd (omega arith)
-
-pub starts_first : (b : ℕ) (l : Text) → (length l ≡ 0 → ⊥) → eqb b (get_or l 0 0) ≡ starts (b ∷ []) l
-unfolding starts
-starts_first b [] h = absurd (h refl)
-starts_first b (x ∷ l) h = sym (and-true (eqb b x))
+starts_byte b [] = refl
+starts_byte b (x ∷ l) = refl

@@ -1,8 +1,8 @@
 -- How two texts stand to each other in byte order.
 use Rattle.std.specs.Prelude.{if◌then◌else◌}
+use Rattle.std.specs.declared.cmp.Ordering.{Ordering}
+use Rattle.std.specs.declared.cmp.Ordering.TheVariants.{Less, Equal, Greater}
 use Rattle.definition.specs.Text.{Text, same, earlier}
-use Rattle.texts.specs.declared.Order.{Order}
-use Rattle.texts.specs.declared.Order.TheVariants.{Before, Same, After}
 
-unfoldable pub order : Text → Text → Order
-order s t = if same s t then Same else if earlier s t then Before else After
+unfoldable pub order : Text → Text → Ordering
+order s t = if same s t then Equal else if earlier s t then Less else Greater

@@ -8,62 +8,30 @@ ghost use Rattle.texts.specs.Orders.{order};
 ghost use Rattle.texts.specs.Classes.{is_of};
 ghost use Rattle.texts.specs.Words.{is_reserved, terminal_of, index_of};
 
-#[derive(Clone, Copy)]
-pub enum Order {
-    Before,
-    Same,
-    After,
-}
+use std::cmp::Ordering;
 
 // How a stands to b "in byte order, a prefix first".
-pub fn compare(a: &[u8], b: &[u8]) -> Order
+#[tactic(auto, using(crate::proofs::OrderLaws::order_bytes))]
+pub fn compare(a: &[u8], b: &[u8]) -> Ordering
     ensures { result ≡ order a.now b.now }
 {
-    let mut i = 0;
-    while i < a.len() {
-        if b.len() <= i {
-            return Order::After;
-        }
-        if a[i] < b[i] {
-            return Order::Before;
-        }
-        if b[i] < a[i] {
-            return Order::After;
-        }
-        i += 1;
-    }
-    if i < b.len() {
-        Order::Before
-    } else {
-        Order::Same
-    }
+    a.cmp(b)
 }
 
 // Whether a and b are the same text.
+#[tactic(auto, using(crate::proofs::OrderLaws::same_bytes))]
 pub fn same(a: &[u8], b: &[u8]) -> bool
     ensures { result ≡ same a.now b.now }
 {
-    if a.len() != b.len() {
-        return false;
-    }
-    let mut i = 0;
-    while i < a.len() {
-        if a[i] != b[i] {
-            return false;
-        }
-        i += 1;
-    }
-    true
+    a == b
 }
 
 // Whether the text starts with the byte b.
+#[tactic(auto, using(crate::proofs::OrderLaws::starts_byte))]
 pub fn starts_with(l: &[u8], b: u8) -> bool
     ensures { result ≡ starts (b ∷ []) l.now }
 {
-    if l.len() == 0 {
-        return false;
-    }
-    b == l[0]
+    l.starts_with(&[b])
 }
 
 // The classes of bytes that runs are made of. Inside: no blank. Printable: 32 to 126. InString: neither a quote nor byte 10. Bare: neither a quote nor a blank.
@@ -82,62 +50,46 @@ pub enum Class {
 }
 
 // "spaces or tabs"
+#[tactic(auto, unfolding(definition::specs::Text::is_blank))]
 pub fn is_blank(b: u8) -> bool
     ensures { result ≡ is_blank b }
 {
-    if b == 9 {
-        return true;
-    }
-    b == 32
+    b == 9 || b == 32
 }
 
 // From low to high.
 fn is_between(low: u8, high: u8, b: u8) -> bool
     ensures { result ≡ between low high b }
 {
-    if b < low {
-        return false;
-    }
-    b <= high
+    low <= b && b <= high
 }
 
 // "a letter or underscore"
+#[tactic(auto, unfolding(definition::specs::Text::is_letter))]
 pub fn is_letter(b: u8) -> bool
     ensures { result ≡ is_letter b }
 {
-    if is_between(65, 90, b) {
-        return true;
-    }
-    if is_between(97, 122, b) {
-        return true;
-    }
-    b == 95
+    is_between(65, 90, b) || is_between(97, 122, b) || b == 95
 }
 
 // "letters, digits, underscores"
+#[tactic(auto, unfolding(definition::specs::Text::is_part))]
 pub fn is_part(b: u8) -> bool
     ensures { result ≡ is_part b }
 {
-    if is_letter(b) {
-        return true;
-    }
-    is_between(48, 57, b)
+    is_letter(b) || is_between(48, 57, b)
 }
 
 // "9, 10 or 32..126"
+#[tactic(auto, unfolding(definition::specs::Text::is_legal))]
 pub fn is_legal(b: u8) -> bool
     ensures { result ≡ is_legal b }
 {
-    if b == 9 {
-        return true;
-    }
-    if b == 10 {
-        return true;
-    }
-    is_between(32, 126, b)
+    b == 9 || b == 10 || is_between(32, 126, b)
 }
 
 // Whether b is of the class k.
+#[tactic(auto, unfolding(definition::specs::Text::is_digit))]
 pub fn of_class(b: u8, k: Class) -> bool
     ensures { result ≡ is_of k b }
 {
@@ -149,18 +101,8 @@ pub fn of_class(b: u8, k: Class) -> bool
         Class::Printable => is_between(32, 126, b),
         Class::NoQuote => b != 34,
         Class::NoEnd => b != 10,
-        Class::InString => {
-            if b == 34 {
-                return false;
-            }
-            b != 10
-        }
-        Class::Bare => {
-            if b == 34 {
-                return false;
-            }
-            !is_blank(b)
-        }
+        Class::InString => b != 34 && b != 10,
+        Class::Bare => b != 34 && !is_blank(b),
         Class::Digit => is_between(48, 57, b),
     }
 }
@@ -171,25 +113,20 @@ pub fn run_end(s: &[u8], at: usize, k: Class) -> usize
     ensures value { result ≡ at + span (is_of k) (drop at s.now) }
     ensures within { (at ≤ result) × (result ≤ length s.now) }
 {
-    let mut i = at;
-    while i < s.len() {
-        let b = s[i];
-        if !of_class(b, k) {
+    for i in at..s.len() {
+        if !of_class(s[i], k) {
             return i;
         }
-        i += 1;
     }
-    i
+    s.len()
 }
 
 // Whether an element with the text s is printed in quotes though no fact quoted it: "if it is empty or holds a space or tab".
+#[tactic(auto, using(crate::proofs::QuoteLaws::quotes_empty, crate::proofs::QuoteLaws::quotes_blank))]
 pub fn needs_quotes(s: &[u8]) -> bool
     ensures { result ≡ needs_quotes s.now }
 {
-    if s.len() == 0 {
-        return true;
-    }
-    run_end(s, 0, Class::Inside) < s.len()
+    s.is_empty() || run_end(s, 0, Class::Inside) < s.len()
 }
 
 // "Reserved are TRUE, FALSE and the manual's 24 keywords (6.1)": 26 words of up to 7 letters, filled up with blanks.
@@ -201,83 +138,51 @@ const LENGTHS: [usize; 26] = [
     3, 3, 4, 4, 2, 4, 4, 2, 3, 2, 2, 3, 3, 3, 6, 5, 7, 6, 6, 3, 2, 6, 2, 5, 4, 5,
 ];
 
-// What a word is: a reserved one, with its index in the table, or none.
-#[derive(Clone, Copy)]
-pub enum Word {
-    Reserved(usize),
-    Identifier,
-}
-
 // Whether w is not reserved by its length or its second letter: most names are told so, before the table is made.
 fn is_other(w: &[u8]) -> bool
     ensures { result ≡ true → member w.now reserved ≡ false }
 {
-    if w.len() < 2 {
-        return true;
-    }
-    if 7 < w.len() {
-        return true;
-    }
-    90 < w[1]
+    w.len() < 2 || 7 < w.len() || 90 < w[1]
 }
 
-// The reserved word that the text w is.
-pub fn reserved_word(w: &[u8]) -> Word
+// The index in the table of the reserved word that the text w is.
+pub fn reserved_word(w: &[u8]) -> Option<usize>
     ensures listed { is_reserved result ≡ member w.now reserved }
     ensures terminal { (i : ℕ) → word_terminal reserved FIRST_WORD w.now i ≡ terminal_of result i }
     ensures index { index_of result < 26 }
 {
     if is_other(w) {
-        return Word::Identifier;
+        return None;
     }
     let words = WORDS;
     let lengths = LENGTHS;
-    let mut k: usize = 0;
-    while k < 26 {
+    for k in 0..26 {
         let a = k * 7;
-        let n = lengths[k];
-        let e = a + n;
-        if same(&words[a..e], w) {
-            return Word::Reserved(k);
+        if same(&words[a..a + lengths[k]], w) {
+            return Some(k);
         }
-        k += 1;
     }
-    Word::Identifier
+    None
 }
 
 // Whether the text w is a name: "a letter or underscore, then letters, digits, underscores, 1 to 32 bytes, not "_" alone and not reserved".
+#[tactic(auto, using(crate::proofs::NameLaws::tests))]
 pub fn is_name(w: &[u8]) -> bool
     ensures { result ≡ is_name w.now }
 {
-    if w.len() == 0 {
-        return false;
-    }
-    if 32 < w.len() {
-        return false;
-    }
-    if !is_letter(w[0]) {
-        return false;
-    }
-    if run_end(w, 1, Class::Part) < w.len() {
-        return false;
-    }
-    if same(w, b"_") {
-        return false;
-    }
-    match reserved_word(w) {
-        Word::Reserved(_) => false,
-        Word::Identifier => true,
-    }
+    !w.is_empty()
+        && w.len() <= 32
+        && is_letter(w[0])
+        && run_end(w, 1, Class::Part) == w.len()
+        && !same(w, b"_")
+        && reserved_word(w).is_none()
 }
 
 // The value of a digit.
 fn digit(b: u8) -> u64
     ensures { result ≡ b - 48 }
 {
-    if b < 48 {
-        return 0;
-    }
-    b as u64 - 48
+    u64::from(b.saturating_sub(48))
 }
 
 // The value of digits that begin with value v and end with the digit b, 1,000,000 where it is larger.
@@ -285,8 +190,7 @@ fn with_digit(v: u64, b: u8) -> u64
     requires { v ≤ 1_000_000 }
     ensures { result ≡ min (10 * v + (b - 48)) 1_000_000 }
 {
-    let n = 10 * v + digit(b);
-    if n < 1_000_000 { n } else { 1_000_000 }
+    (10 * v + digit(b)).min(1_000_000)
 }
 
 // The value of a run of digits, 1,000,000 where it is larger: no literal that large is taken.
@@ -294,10 +198,8 @@ pub fn value(s: &[u8]) -> u64
     ensures { result ≡ min (value s.now) 1_000_000 }
 {
     let mut v: u64 = 0;
-    let mut i = 0;
-    while i < s.len() {
-        v = with_digit(v, s[i]);
-        i += 1;
+    for b in s {
+        v = with_digit(v, *b);
     }
     v
 }

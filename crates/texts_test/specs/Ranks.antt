@@ -1,9 +1,9 @@
 -- An order as a number, for the checks.
 use Rattle.std.specs.Prelude.{ℕ}
-use Rattle.texts.specs.declared.Order.{Order}
-use Rattle.texts.specs.declared.Order.TheVariants.{Before, Same, After}
+use Rattle.std.specs.declared.cmp.Ordering.{Ordering}
+use Rattle.std.specs.declared.cmp.Ordering.TheVariants.{Less, Equal, Greater}
 
-abbrev pub rank_of : Order → ℕ
-rank_of Before = 0
-rank_of Same = 1
-rank_of After = 2
+abbrev pub rank_of : Ordering → ℕ
+rank_of Less = 0
+rank_of Equal = 1
+rank_of Greater = 2

@@ -10,16 +10,17 @@ ghost use Rattle.texts.specs.Orders.{order};
 ghost use Rattle.texts_test.specs.Ranks.{rank_of};
 
 use check::expect;
-use texts::{Class, Order, compare, is_name, needs_quotes, run_end, same, value};
+use std::cmp::Ordering;
+use texts::{Class, compare, is_name, needs_quotes, run_end, same, value};
 
 // The order as a number.
-fn rank(o: Order) -> usize
+fn rank(o: Ordering) -> usize
     ensures { result ≡ rank_of o }
 {
     match o {
-        Order::Before => 0,
-        Order::Same => 1,
-        Order::After => 2,
+        Ordering::Less => 0,
+        Ordering::Equal => 1,
+        Ordering::Greater => 2,
     }
 }
 
@@ -60,12 +61,14 @@ fn valued(text: &[u8], n: u64)
 }
 
 // "a prefix first"
+#[tactic(auto, unfolding(definition::specs::Text::computes, texts::specs::Orders::order))]
 fn orders() {
     ordered(b"On", b"Onto", 0, false);
     ordered(b"On", b"On", 1, true);
     ordered(b"C2", b"C10", 2, false);
 }
 
+#[tactic(auto, unfolding(definition::specs::Text::computes))]
 fn runs() {
     ends(b"On C10", 0, Class::Part, 2);
     ends(b"On \t C10", 2, Class::Blank, 5);
@@ -74,6 +77,7 @@ fn runs() {
 }
 
 // "if it is empty or holds a space or tab"
+#[tactic(auto, unfolding(definition::specs::Text::computes))]
 fn quotes() {
     needs(b"", true);
     needs(b"5Y off the run", true);
@@ -81,6 +85,7 @@ fn quotes() {
     needs(b"plain", false);
 }
 
+#[tactic(auto, unfolding(definition::specs::Text::computes))]
 fn identifiers() {
     names(b"__", true);
     names(b"a2345678901234567890123456789012", true);
@@ -92,6 +97,7 @@ fn identifiers() {
 }
 
 // "literals to 999,999"
+#[tactic(auto, unfolding(definition::specs::Token::value_after))]
 fn numerals() {
     valued(b"", 0);
     valued(b"007", 7);

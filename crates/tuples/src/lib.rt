@@ -8,23 +8,14 @@ ghost use Rattle.tuples.specs.Places.{digits, number_at, word_at, bit_at, with_t
 
 use bits::{set_bit, test_bit};
 
-// An element of a tuple as a number.
-fn wide(x: u8) -> usize
-    ensures { (result ≡ x) × (result < 256) }
-{
-    x as usize
-}
-
 // The words of a table.
 pub fn table_words(u: u8, n: usize) -> usize
     requires { n ≤ 4 }
     ensures { result ≡ table_words u n }
 {
     let mut words: usize = 1;
-    let mut k: usize = 1;
-    while k < n {
+    for _ in 1..n {
         words = u as usize * words;
-        k += 1;
     }
     words
 }
@@ -35,12 +26,10 @@ pub fn tuple_of(u: u8, n: usize, i: usize) -> [u8; 4]
     ensures { take n result ≡ digits u n i }
 {
     let mut t = [0u8; 4];
-    let mut k = n;
     let mut rest = i;
-    while 0 < k {
-        k -= 1;
+    for k in (0..n).rev() {
         t[k] = (rest % u as usize) as u8;
-        rest = rest / u as usize;
+        rest /= u as usize;
     }
     t
 }
@@ -51,10 +40,8 @@ pub fn tuple_number(u: u8, n: usize, t: [u8; 4]) -> usize
     ensures { (result ≡ number_at u 0 (take n t)) × (result < 4294967296) }
 {
     let mut i: usize = 0;
-    let mut k: usize = 0;
-    while k < n {
-        i = u as usize * i + wide(t[k]);
-        k += 1;
+    for a in &t[..n] {
+        i = u as usize * i + *a as usize;
     }
     i
 }
@@ -78,7 +65,7 @@ pub fn place_bit(n: usize, t: [u8; 4]) -> u64
     if n == 0 {
         return 0;
     }
-    wide(t[n - 1]) as u64
+    t[n - 1] as u64
 }
 
 // Whether a table holds a tuple; words past the table's end are zero.

@@ -15,9 +15,7 @@ fn turn_part(w: usize) -> usize
 pub fn turn(words: &mut [usize])
     ensures { words.new ≡ map turned words.old }
 {
-    let mut i: usize = 0;
-    while i < words.len() {
-        words[i] = turn_part(words[i]);
-        i += 1;
+    for w in words.iter_mut() {
+        *w = turn_part(*w);
     }
 }

@@ -14,7 +14,7 @@ use Rattle.definition.specs.Limits.{FACT_BYTES}
 use Rattle.definition.specs.Answer.{Answer, ok, refused, refuse_if, ◌>>◌}
 use Rattle.definition.specs.Join.{of_text, right, wrong, within_room}
 use Rattle.definition.specs.Calls.{join_meets}
-use Rattle.definition.specs.declared.Joined.TheVariants.{Length, Refused}
+use Rattle.std.specs.Prelude.{Ok, Err}
 use Rattle.definition.specs.declared.Refusal.TheVariants.{ResultTooLong}
 use Rattle.unions.specs.Union.{Laid}
 
@@ -27,23 +27,23 @@ module _ (t output out₁ : Text) (size : ℕ) (h : Laid false output 0 t size o
   unfolding within_room
   room a b e f = ap₂ (λ (a b : Bool). ◌>>◌ (refuse_if (a || b) 21 (length t)) (ok t)) e f
 
-  refuses : within_room (length output) t ≡ refused 21 (length t) → join_meets (of_text 0 (within_room (length output) t) right) output (Refused (ResultTooLong size) 0) out₁
+  refuses : within_room (length output) t ≡ refused 21 (length t) → join_meets (of_text 0 (within_room (length output) t) right) output (Err (record { refusal = ResultTooLong size; text = 0 })) out₁
   refuses e =
-      subst (λ (a : Answer Text). join_meets (of_text 0 a right) output (Refused (ResultTooLong size) 0) out₁) (sym e)
+      subst (λ (a : Answer Text). join_meets (of_text 0 a right) output (Err (record { refusal = ResultTooLong size; text = 0 })) out₁) (sym e)
       (record { answer = ap (wrong 0 21) is_length; output_stays = h.bytes })
 
-  pub too_long : 32768 < size → join_meets (of_text 0 (within_room (length output) t) right) output (Refused (ResultTooLong size) 0) out₁
+  pub too_long : 32768 < size → join_meets (of_text 0 (within_room (length output) t) right) output (Err (record { refusal = ResultTooLong size; text = 0 })) out₁
   too_long l = refuses (room true (ltb (length output) (length t)) (lt-ltb FACT_BYTES (length t) (omega (arith, l, is_length))) refl)
 
-  pub output_short : size ≤ 32768 → length out₁ < size → join_meets (of_text 0 (within_room (length output) t) right) output (Refused (ResultTooLong size) 0) out₁
+  pub output_short : size ≤ 32768 → length out₁ < size → join_meets (of_text 0 (within_room (length output) t) right) output (Err (record { refusal = ResultTooLong size; text = 0 })) out₁
   output_short k l =
       refuses
       (room false true (le-ltb FACT_BYTES (length t) (omega (arith, k, is_length)))
       (lt-ltb (length output) (length t) (omega (arith, l, is_length, ap length h.bytes))))
 
-  pub all_written : {end : ℕ} {out₂ : Text} → size ≤ 32768 → size ≤ length out₁ → Laid true out₁ 0 t end out₂ → join_meets (of_text 0 (within_room (length output) t) right) output (Length size) out₂
+  pub all_written : {end : ℕ} {out₂ : Text} → size ≤ 32768 → size ≤ length out₁ → Laid true out₁ 0 t end out₂ → join_meets (of_text 0 (within_room (length output) t) right) output (Ok size) out₂
   all_written {end} {out₂} k l g =
-      subst (λ (a : Answer Text). join_meets (of_text 0 a right) output (Length size) out₂)
+      subst (λ (a : Answer Text). join_meets (of_text 0 a right) output (Ok size) out₂)
       (sym (room false false (le-ltb FACT_BYTES (length t) (omega (arith, k, is_length))) (le-ltb (length output) (length t) fits)))
       (record { answer = ap right is_length; written = g.bytes ∙ ap (λ (o : Text). sets o 0 t) h.bytes ∙ front })
     where

@@ -9,8 +9,7 @@ use lib.Seq.{drop-cons}
 use Rattle.definition.specs.Text.{Text, same, earlier}
 use Rattle.parts.specs.Packed.{text_of}
 use Rattle.parts.specs.Entries.{quoted_too, enter, in_front, count_in}
-use Rattle.parts.specs.declared.Entered.{Entered}
-use Rattle.parts.specs.declared.Entered.TheVariants.{Count, Full}
+use Rattle.std.specs.Prelude.{Option, Some, None}
 use Rattle.parts.proofs.HeldLaws.{held_front, held_take, held_length, no_room}
 use Rattle.unions.specs.Union.{sorted}
 
@@ -38,7 +37,7 @@ module _ (facts query : Text) where
 
   module _ (relations words : List ℕ) (n i : ℕ) (s : Sorting relations words n i) (some : 0 < i) where
     -- there is room for all
-    pub sort_fits : length relations ≤ length words → (es : List ℕ) (r : Entered) → r ≡ Full → r ≡ count_in es words → length es ≤ n + 1 → ⊥
+    pub sort_fits : length relations ≤ length words → (es : List ℕ) (r : Option ℕ) → r ≡ None → r ≡ count_in es words → length es ≤ n + 1 → ⊥
     sort_fits room es r e f few = omega (arith, no_room words es (sym e ∙ f), few, s.1)
 
     abbrev with_one : List ℕ
@@ -50,7 +49,7 @@ module _ (facts query : Text) where
         ap (enter facts query (get_or relations (i - 1) 0)) (s.0 ∙ ap (λ (j : ℕ). sorted facts query (drop j relations)) (sym next))
         ∙ ap (sorted facts query) (sym (drop-cons relations (i - 1) 0 (omega (arith, s.1))))
 
-    pub sort_next : (new : List ℕ) → new ≡ in_front with_one words → (r : Entered) (m : ℕ) → r ≡ Count m → r ≡ count_in with_one words
+    pub sort_next : (new : List ℕ) → new ≡ in_front with_one words → (r : Option ℕ) (m : ℕ) → r ≡ Some m → r ≡ count_in with_one words
         → Sorting relations new m (i - 1) × (length new ≡ length words)
     sort_next new e r m f g = let h = held_front words new with_one m e (sym f ∙ g) in ((held_take h ∙ is_sorted, omega (arith, h.count, one_more (get_or relations (i - 1) 0) words n, s.1)), held_length h)
 

@@ -8,9 +8,9 @@ ghost use Rattle.definition.specs.Join.{of_text, right, within_room};
 ghost use Rattle.lines.specs.Lines.{texts, line_of};
 ghost use Rattle.unions.specs.Union.{relation_part, sorted, number_lines, all_lines, Numbered, AllNumbered, Laid};
 
-use definition::{Joined, Refusal};
+use definition::{Refusal, RefusedJoin};
 use lines::put_labelled;
-use parts::{Entered, enter_part, index_of, text_of};
+use parts::{enter_part, index_of, text_of};
 use tuples::tuple_of;
 
 // The length of a line: it is put to a buffer that is long enough for any, without being written.
@@ -99,10 +99,8 @@ fn lay_relation<'a>(
     ensures within { result ≤ at + 512 * length numbers.now }
 {
     let mut p = at;
-    let mut i: usize = 0;
-    while i < numbers.len() {
-        p = lay_number(facts, query, places, name, numbers[i], k, n, out, p, write);
-        i += 1;
+    for x in numbers {
+        p = lay_number(facts, query, places, name, *x, k, n, out, p, write);
     }
     p
 }
@@ -122,13 +120,21 @@ fn lay_all<'a>(
     ensures { Laid write out.old 0 (all_lines (texts facts.now query.now places.now) relations.now numbers.now some.now) result out.new }
 {
     let mut p: usize = 0;
-    let mut i: usize = 0;
-    while i < some.len() {
-        let v = some[i];
-        let name = text_of(facts, query, v);
-        let k = index_of(facts, query, relations, v);
-        p = lay_relation(facts, query, places, name, numbers, k, v % 4, out, p, write);
-        i += 1;
+    for v in some {
+        let name = text_of(facts, query, *v);
+        let k = index_of(facts, query, relations, *v);
+        p = lay_relation(
+            facts,
+            query,
+            places,
+            name,
+            numbers,
+            k,
+            *v % 4,
+            out,
+            p,
+            write,
+        );
     }
     p
 }
@@ -145,12 +151,10 @@ fn sort_names<'a>(
     ensures within { result ≤ length relations.now }
 {
     let mut n: usize = 0;
-    let mut i = relations.len();
-    while 0 < i {
-        i -= 1;
+    for i in (0..relations.len()).rev() {
         match enter_part(facts, query, words, n, relations[i]) {
-            Entered::Full => return n,
-            Entered::Count(m) => {
+            None => return n,
+            Some(m) => {
                 n = m;
             }
         }
@@ -167,7 +171,7 @@ fn write_some<'a>(
     some: &[usize],
     numbers: &[u32],
     output: &mut [u8],
-) -> Joined
+) -> Result<usize, RefusedJoin>
     requires { (length places.now ≤ 64) × (length some.now ≤ 16) × (length numbers.now ≤ 32768) × AllNumbered facts.now query.now relations.now (length places.now) numbers.now some.now }
     ensures { join_meets (of_text 0 (within_room (length output.old) (all_lines (texts facts.now query.now places.now) relations.now numbers.now some.now)) right) output.old result output.new }
 {
@@ -175,13 +179,19 @@ fn write_some<'a>(
         facts, query, relations, places, some, numbers, output, false,
     );
     if 32768 < size {
-        return Joined::Refused(Refusal::ResultTooLong(size), 0);
+        return Err(RefusedJoin {
+            refusal: Refusal::ResultTooLong(size),
+            text: 0,
+        });
     }
     if output.len() < size {
-        return Joined::Refused(Refusal::ResultTooLong(size), 0);
+        return Err(RefusedJoin {
+            refusal: Refusal::ResultTooLong(size),
+            text: 0,
+        });
     }
     lay_all(facts, query, relations, places, some, numbers, output, true);
-    Joined::Length(size)
+    Ok(size)
 }
 
 // The lines of all relations, in byte order of name.
@@ -192,7 +202,7 @@ pub fn write_lines<'a>(
     places: &[usize],
     numbers: &[u32],
     output: &mut [u8],
-) -> Joined
+) -> Result<usize, RefusedJoin>
     requires { (length relations.now ≤ 16) × (length places.now ≤ 64) × (length numbers.now ≤ 32768) × AllNumbered facts.now query.now relations.now (length places.now) numbers.now (sorted facts.now query.now relations.now) }
     ensures { join_meets (of_text 0 (within_room (length output.old) (all_lines (texts facts.now query.now places.now) relations.now numbers.now (sorted facts.now query.now relations.now))) right) output.old result output.new }
 {

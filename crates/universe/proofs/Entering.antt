@@ -17,13 +17,11 @@ use Rattle.definition.specs.Syntax.{Program}
 use Rattle.definition.specs.Facts.{Element, insert, use_elements}
 use Rattle.words.specs.Fields.{kind_of, p_of}
 use Rattle.parts.specs.Entries.{Held, enter, enter_all, texts_of, in_front, count_in}
-use Rattle.parts.specs.declared.Entered.TheVariants as entered
+use Rattle.std.specs.Prelude.{Option, Some, None, Result, Ok, Err, ok_or}
 use Rattle.parts.proofs.HeldLaws.{length_texts, texts_enter, enter_all_longer, enter_all_append, held_first, held_take, held_drop, held_length, held_then, held_front, no_room}
 use Rattle.facts.specs.Pass.{limits_of}
 use Rattle.kinds.specs.Resolved.{Parsed}
 use Rattle.universe.specs.Strings.{LEFT_STRING, string_word, string_element, left_tokens, with_strings, Enters, StringsMeet}
-use Rattle.universe.specs.declared.Strings.{Strings}
-use Rattle.universe.specs.declared.Strings.TheVariants.{Count, Full}
 use Rattle.universe.proofs.LeftStrings.{left_strings_shown}
 use Rattle.universe.proofs.StringWords.{string_text}
 
@@ -50,7 +48,7 @@ left_cons tokens w ws = go (eqb (kind_of w) LEFT_STRING)
 module _ (facts query : Text) where
   module _ (tokens : List ℕ) (w : ℕ) (old : List ℕ) (n : ℕ) where
     -- a word of no string on a left-hand side
-    pub enters_none : (kind_of w ≡ LEFT_STRING → ⊥) → n ≤ length old → Enters facts query (left_tokens tokens (w ∷ [])) old old n (Count n)
+    pub enters_none : (kind_of w ≡ LEFT_STRING → ⊥) → n ≤ length old → Enters facts query (left_tokens tokens (w ∷ [])) old old n (Ok n)
     unfolding left_tokens enter_all use_elements
     enters_none h l = rw (ne_eqb (kind_of w) LEFT_STRING h) (held_first old n l, λ k. refl)
 
@@ -65,18 +63,23 @@ module _ (facts query : Text) where
       value_in : insert (string_element query t).value (texts_of facts query (take n old)) ≡ texts_of facts query es
       value_in = ap (λ (x : Text). insert x (texts_of facts query (take n old))) (sym (string_text query t facts)) ∙ sym (texts_enter facts query (string_word query t) (take n old))
 
-      pub enters_full : entered.Full ≡ count_in es old → Enters facts query (left_tokens tokens (w ∷ [])) old old n (Full (t / 4096))
+      pub enters_full : None ≡ count_in es old → Enters facts query (left_tokens tokens (w ∷ [])) old old n (Err (t / 4096))
       unfolding use_elements
       enters_full c =
           let m : ltb (length old) (length (texts_of facts query es)) ≡ true = lt-ltb (length old) (length (texts_of facts query es)) (omega (arith, no_room old es c, length_texts facts query es)) in
           λ k. rw (is_one, value_in, m)
 
-      pub enters_one : (new : List ℕ) (m : ℕ) → new ≡ in_front es old → entered.Count m ≡ count_in es old → Enters facts query (left_tokens tokens (w ∷ [])) old new n (Count m)
+      pub enters_one : (new : List ℕ) (m : ℕ) → new ≡ in_front es old → Some m ≡ count_in es old → Enters facts query (left_tokens tokens (w ∷ [])) old new n (Ok m)
       unfolding use_elements enter_all
       enters_one new m e c =
           let g : Held old new es m = held_front old new es m e c in
           let q : ltb (length old) (length (texts_of facts query es)) ≡ false = le-ltb (length old) (length (texts_of facts query es)) (omega (arith, g.count, g.room, length_texts facts query es)) in
           rw is_one (g, λ k. rw (value_in, q))
+
+      -- what entering the string answers, by what entering its part does
+      pub enters_or : (new : List ℕ) (o : Option ℕ) (r : Result ℕ ℕ) (p : ℕ) → r ≡ ok_or o p → p ≡ t / 4096 → new ≡ in_front es old → o ≡ count_in es old → Enters facts query (left_tokens tokens (w ∷ [])) old new n r
+      enters_or new None r p d a e c = rw (d, a) (enters_full c)
+      enters_or new (Some m) r p d a e c = rw d (enters_one new m e c)
 
   module _ (tokens words old : List ℕ) (n : ℕ) where
     -- the strings of the first i words are entered
@@ -113,9 +116,9 @@ module _ (facts query : Text) where
             ∙ use_append (limits_of k (length old)) (map (string_element query) (left_tokens tokens (get_or words i 0 ∷ []))) (map (string_element query) (left_tokens tokens (drop (i + 1) words))) (texts_of facts query (take count new))
             ∙ ap (λ (m : ℕ). ◌>>=◌ (use_elements (limits_of k m) (map (string_element query) (left_tokens tokens (get_or words i 0 ∷ []))) (texts_of facts query (take count new))) (use_elements (limits_of k (length old)) (map (string_element query) (left_tokens tokens (drop (i + 1) words))))) (sym same_length)
 
-        pub entering_next : (new' : List ℕ) (m : ℕ) (r : Strings) → r ≡ Count m → Enters facts query (left_tokens tokens (get_or words i 0 ∷ [])) new new' count r → Entering new' m (i + 1)
+        pub entering_next : (new' : List ℕ) (m : ℕ) (r : Result ℕ ℕ) → r ≡ Ok m → Enters facts query (left_tokens tokens (get_or words i 0 ∷ [])) new new' count r → Entering new' m (i + 1)
         entering_next new' m r a b =
-            let g : Enters facts query (left_tokens tokens (get_or words i 0 ∷ [])) new new' count (Count m) = subst (Enters facts query (left_tokens tokens (get_or words i 0 ∷ [])) new new' count) a b in
+            let g : Enters facts query (left_tokens tokens (get_or words i 0 ∷ [])) new new' count (Ok m) = subst (Enters facts query (left_tokens tokens (get_or words i 0 ∷ [])) new new' count) a b in
             let e : take m new' ≡ with_strings facts query (left_tokens tokens (get_or words i 0 ∷ [])) (take count new) = held_take g.0 in
             let t : count ≤ m = omega (arith, h.held.count, g.0.count, enter_all_longer facts query (map (string_word query) (left_tokens tokens (get_or words i 0 ∷ []))) (take count new)) in
             record {
@@ -130,15 +133,15 @@ module _ (facts query : Text) where
               uses = λ k. uses_on k ∙ rw (g.1 k, e);
             }
 
-        pub entering_full : (new' : List ℕ) (p : ℕ) (r : Strings) → r ≡ Full p → Enters facts query (left_tokens tokens (get_or words i 0 ∷ [])) new new' count r → length old ≡ 64
-            → (ts : List Token) (pr : Program) → Parsed query tokens words ts pr → StringsMeet facts query pr tokens words old new' n (Full p)
+        pub entering_full : (new' : List ℕ) (p : ℕ) (r : Result ℕ ℕ) → r ≡ Err p → Enters facts query (left_tokens tokens (get_or words i 0 ∷ [])) new new' count r → length old ≡ 64
+            → (ts : List Token) (pr : Program) → Parsed query tokens words ts pr → StringsMeet facts query pr tokens words old new' n (Err p)
         entering_full new' p r a b s ts pr q =
-            let g : Enters facts query (left_tokens tokens (get_or words i 0 ∷ [])) new new' count (Full p) = subst (Enters facts query (left_tokens tokens (get_or words i 0 ∷ [])) new new' count) a b in
+            let g : Enters facts query (left_tokens tokens (get_or words i 0 ∷ [])) new new' count (Err p) = subst (Enters facts query (left_tokens tokens (get_or words i 0 ∷ [])) new new' count) a b in
             ap (λ (es : List Element). use_elements document_01 es (texts_of facts query (take n old))) (sym (left_strings_shown query tokens words ts pr q))
             ∙ ap (λ (m : ℕ). use_elements (limits_of 16 m) (map (string_element query) (left_tokens tokens words)) (texts_of facts query (take n old))) (sym s)
             ∙ uses_on 16 ∙ rw (g 16)
 
-      pub entering_end : length words ≤ i → length old ≡ 64 → (ts : List Token) (pr : Program) → Parsed query tokens words ts pr → StringsMeet facts query pr tokens words old new n (Count count)
+      pub entering_end : length words ≤ i → length old ≡ 64 → (ts : List Token) (pr : Program) → Parsed query tokens words ts pr → StringsMeet facts query pr tokens words old new n (Ok count)
       unfolding left_tokens enter_all use_elements
       entering_end l s ts pr q =
           let d : drop i words ≡ [] = drop_of_length-le words l in

@@ -27,7 +27,7 @@ use Rattle.parts.specs.Packed.{part_of, text_of}
 use Rattle.parts.specs.Entries.{enter_all, texts_of}
 use Rattle.parts.proofs.HeldLaws.{length_texts, held_take, enter_all_ascending}
 use Rattle.facts.specs.declared.Counts.{Counts}
-use Rattle.facts.specs.declared.FactsRead.TheVariants.{Given}
+use Rattle.std.specs.declared.result.Result.TheVariants.{Ok}
 use Rattle.facts.specs.Words.{element_word, entered, noted}
 use Rattle.facts.specs.Pass.{limits_of, facts_of}
 use Rattle.facts.specs.Reading.{all_facts, Meets}
@@ -54,7 +54,7 @@ module _ (facts query : Text) where
     pub parts : places ≡ with_strings facts query (left_tokens tokens words) (entered facts query (all_facts facts))
 
   -- after the facts are read and the strings of the program entered
-  pub filled : (rs rs' us us' tokens words new : List ℕ) (d : Counts) (c : ℕ) (p : Program) (w : Accepted) → length rs ≡ 16 → length us ≡ 64 → Meets facts query rs rs' us us' (Given d)
+  pub filled : (rs rs' us us' tokens words new : List ℕ) (d : Counts) (c : ℕ) (p : Program) (w : Accepted) → length rs ≡ 16 → length us ≡ 64 → Meets facts query rs rs' us us' (Ok d)
       → WithStrings facts query p tokens words us' new d.elements c → read_query query ≡ ok p → accept document_01 facts query ≡ ok w → Filled tokens words (take c new) w
   filled rs rs' us us' tokens words new d c p w r u m s q e =
       let h = AcceptLaws.parts document_01 facts query w e in

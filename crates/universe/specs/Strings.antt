@@ -1,5 +1,5 @@
 -- The strings on left-hand sides, by the words of a program, and what entering them into the universe gives.
-use Rattle.std.specs.Prelude.{ℕ, ◌+◌, ◌/◌, ◌%◌, ◌≤◌, ◌≡◌, true, cond, List, [], ◌∷◌, map, eqb, length, get_or, take, drop}
+use Rattle.std.specs.Prelude.{ℕ, ◌+◌, ◌/◌, ◌%◌, ◌≤◌, ◌≡◌, true, cond, List, [], ◌∷◌, map, eqb, length, get_or, take, drop, Result, Ok, Err}
 use Rattle.definition.specs.Text.{Text, needs_quotes}
 use Rattle.definition.specs.Limits.{document_01}
 use Rattle.definition.specs.Answer.{ok, refused}
@@ -10,8 +10,6 @@ use Rattle.words.specs.Fields.{kind_of, p_of}
 use Rattle.parts.specs.Packed.{pack}
 use Rattle.parts.specs.Entries.{Held, enter_all, texts_of}
 use Rattle.facts.specs.Pass.{limits_of}
-use Rattle.universe.specs.declared.Strings.{Strings}
-use Rattle.universe.specs.declared.Strings.TheVariants.{Count, Full}
 
 -- the kind of a string's word where a name would be an attribute alone: on a left-hand side
 abbrev pub LEFT_STRING : ℕ
@@ -36,11 +34,11 @@ module _ (facts query : Text) where
   with_strings ts us = enter_all facts query (map (string_word query) ts) us
 
   -- the strings of some tokens entered after the first n parts
-  abbrev pub Enters : List ℕ → List ℕ → List ℕ → ℕ → Strings → Type 0
-  Enters ts old new n (Count c) =
+  abbrev pub Enters : List ℕ → List ℕ → List ℕ → ℕ → Result ℕ ℕ → Type 0
+  Enters ts old new n (Ok c) =
       Held old new (with_strings ts (take n old)) c
       × ((k : ℕ) → use_elements (limits_of k (length old)) (map (string_element query) ts) (texts_of facts query (take n old)) ≡ ok (texts_of facts query (with_strings ts (take n old))))
-  Enters ts old new n (Full p) = (k : ℕ) → use_elements (limits_of k (length old)) (map (string_element query) ts) (texts_of facts query (take n old)) ≡ refused 7 p
+  Enters ts old new n (Err p) = (k : ℕ) → use_elements (limits_of k (length old)) (map (string_element query) ts) (texts_of facts query (take n old)) ≡ refused 7 p
 
   -- the universe with the strings of the program, in the first c words; an element's part stays the first, and its tag what it was
   pub record WithStrings (p : Program) (tokens words old new : List ℕ) (n c : ℕ) : Type 0 where
@@ -51,6 +49,6 @@ module _ (facts query : Text) where
     pub few : c ≤ 64
 
   -- row 7 for the strings on left-hand sides
-  abbrev pub StringsMeet : Program → List ℕ → List ℕ → List ℕ → List ℕ → ℕ → Strings → Type 0
-  StringsMeet p tokens words old new n (Count c) = WithStrings p tokens words old new n c
-  StringsMeet p tokens words old new n (Full at) = use_elements document_01 (left_strings p) (texts_of facts query (take n old)) ≡ refused 7 at
+  abbrev pub StringsMeet : Program → List ℕ → List ℕ → List ℕ → List ℕ → ℕ → Result ℕ ℕ → Type 0
+  StringsMeet p tokens words old new n (Ok c) = WithStrings p tokens words old new n c
+  StringsMeet p tokens words old new n (Err at) = use_elements document_01 (left_strings p) (texts_of facts query (take n old)) ≡ refused 7 at

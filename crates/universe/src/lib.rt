@@ -8,7 +8,7 @@ ghost use Rattle.words.specs.Fields.{p_of};
 ghost use Rattle.kinds.specs.Resolved.{Parsed};
 ghost use Rattle.universe.specs.Strings.{string_word, left_tokens, Enters, StringsMeet};
 
-use parts::{Entered, enter_part, part};
+use parts::{enter_part, part};
 use texts::needs_quotes;
 
 // The token of a string's word; 0 past the end.
@@ -29,14 +29,8 @@ fn string_word(query: &[u8], t: u64) -> usize
     (start * 64 + n) * 8 + 4 + tag
 }
 
-// How many elements there are with the strings, or the place of the one for which there is no room.
-#[derive(Clone, Copy)]
-pub enum Strings {
-    Count(usize),
-    Full(usize),
-}
-
-// Enters the string of a word, if it is one on a left-hand side, into the universe of n elements.
+// Enters the string of a word, if it is one on a left-hand side, into the universe of n elements: how many there are then, or the place of
+// the string for which there is no room.
 fn enter_string<'a>(
     facts: &'a [u8],
     query: &'a [u8],
@@ -44,21 +38,18 @@ fn enter_string<'a>(
     places: &mut [usize],
     n: usize,
     w: u64,
-) -> Strings
+) -> Result<usize, usize>
     requires { n ≤ length places.old }
     ensures { Enters facts.now query.now (left_tokens tokens.now (w ∷ [])) places.old places.new n result }
 {
     if w % 256 != 42 {
-        return Strings::Count(n);
+        return Ok(n);
     }
     let t = token_of(tokens, w);
-    match enter_part(facts, query, places, n, string_word(query, t)) {
-        Entered::Full => Strings::Full(lexer::place(t)),
-        Entered::Count(m) => Strings::Count(m),
-    }
+    enter_part(facts, query, places, n, string_word(query, t)).ok_or(lexer::place(t))
 }
 
-// Enters the strings on left-hand sides into the universe of n elements: row 7.
+// Enters the strings on left-hand sides into the universe of n elements: row 7, with its place, if there is no room.
 pub fn enter_strings<'a>(
     facts: &'a [u8],
     query: &'a [u8],
@@ -66,20 +57,13 @@ pub fn enter_strings<'a>(
     words: &[u64],
     places: &mut [usize],
     n: usize,
-) -> Strings
+) -> Result<usize, usize>
     requires { (n ≤ 64) × (length places.old ≡ 64) }
     ensures { (ts : List Token) (p : Program) → Parsed query.now tokens.now words.now ts p → StringsMeet facts.now query.now p tokens.now words.now places.old places.new n result }
 {
     let mut count = n;
-    let mut i: usize = 0;
-    while i < words.len() {
-        match enter_string(facts, query, tokens, places, count, words[i]) {
-            Strings::Full(at) => return Strings::Full(at),
-            Strings::Count(m) => {
-                count = m;
-            }
-        }
-        i += 1;
+    for &w in words {
+        count = enter_string(facts, query, tokens, places, count, w)?;
     }
-    Strings::Count(count)
+    Ok(count)
 }

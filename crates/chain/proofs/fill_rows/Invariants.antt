@@ -6,7 +6,7 @@ use Rattle.chain.specs.Fill.{fill}
 use Rattle.chain.proofs.fill_rows.Given as goal
 
 abbrev pub invariant-loop-a : goal.invariant-loop-a
-invariant-loop-a l = (length l.rows ≡ length l.initial.rows) × (fill l.facts l.universe l.name l.rows (facts_from l.facts l.at) ≡ fill l.facts l.universe l.name l.initial.rows (all_facts l.facts))
+invariant-loop-a l = fill l.facts l.universe l.name l.rows (facts_from l.facts l.at) ≡ fill l.facts l.universe l.name l.initial.rows (all_facts l.facts)
 
 abbrev pub decreases-loop-a : goal.decreases-loop-a
 decreases-loop-a l = length l.facts + 1 - l.at

@@ -1,4 +1,4 @@
-use Prim.Native.Nat.{ℕ, ◌-◌}
+use Prim.Native.Nat.{ℕ}
 use mathlib.Core.Path.{◌≡◌, refl, sym, ap, ap₂, ◌∙◌}
 use mathlib.Core.Bool.{Bool, cond}
 use native.Mathlib.Omega.{arith}
@@ -12,31 +12,17 @@ use Rattle.chains.proofs.before.Goals as goal
 
 pub loop-x-init : goal.loop-x-init
 unfolding word
-loop-x-init c = (refl, omega arith)
-
-pub offset_bounds-rows-x : goal.offset_bounds-rows-x
-offset_bounds-rows-x c = omega arith
-
-pub bounds-rows-x : goal.bounds-rows-x
-bounds-rows-x c = omega arith
-
-pub overflow_step-x : goal.overflow_step-x
-overflow_step-x c = omega arith
-
-pub loop-x-smaller : goal.loop-x-smaller
-loop-x-smaller c = omega arith
+loop-x-init c = refl
 
 pub loop-x-preserved : goal.loop-x-preserved
 loop-x-preserved c = let L = c.loop-x in
     let a = c.args in
-    let f : ℕ → Bool = λ y. meets (get_or a.rows.now y 0) a.set in (
-      c.put_bit-w.ensures ∙ ap₂ (λ (t : Bool) (v : ℕ). cond t (with_bit v L.x) v) c.meets.ensures L.invariant.0
-          ∙ word_more L.x f (omega arith) ∙ ap (λ (k : ℕ). word k 0 f) (sym (add-one L.x)),
-      omega arith,
-    )
+    let f : ℕ → Bool = λ y. meets (get_or a.rows.now y 0) a.set in
+    c.put_bit-w.ensures ∙ ap₂ (λ (t : Bool) (v : ℕ). cond t (with_bit v L.x) v) c.meets.ensures L.invariant
+    ∙ word_more L.x f (omega arith) ∙ ap (λ (k : ℕ). word k 0 f) (sym (add-one L.x))
 
 pub returns : goal.returns
 unfolding before
 returns c = let a = c.args in
     let e : c.loop-x.x ≡ length a.rows.now = omega arith in
-    c.loop-x.invariant.0 ∙ ap (λ (k : ℕ). word k 0 (λ y. meets (get_or a.rows.now y 0) a.set)) e
+    c.loop-x.invariant ∙ ap (λ (k : ℕ). word k 0 (λ y. meets (get_or a.rows.now y 0) a.set)) e

@@ -1,4 +1,3 @@
-use Prim.Native.Nat.{◌-◌, ◌≤◌}
 use mathlib.Core.Path.{◌≡◌}
 use lib.ListN.{get_or}
 use Rattle.definition.specs.Tables.{word}
@@ -6,7 +5,4 @@ use Rattle.chains.specs.Levels.{meets}
 use Rattle.chains.proofs.before.Given as goal
 
 abbrev pub invariant-loop-x : goal.invariant-loop-x
-invariant-loop-x l = (l.w ≡ word l.x 0 (λ y. meets (get_or l.rows y 0) l.set)) × (l.x ≤ l.n)
-
-abbrev pub decreases-loop-x : goal.decreases-loop-x
-decreases-loop-x l = l.n - l.x
+invariant-loop-x l = l.w ≡ word l.x 0 (λ y. meets (get_or l.rows y 0) l.set)

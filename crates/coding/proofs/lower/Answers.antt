@@ -1,4 +1,3 @@
-use Prim.Native.Nat.{◌-◌}
 use mathlib.Core.Path.{refl, sym, ◌∙◌}
 use native.Mathlib.Omega.{arith}
 use borrow.Author.Tests.{not-true, not-false}
@@ -6,53 +5,31 @@ use Rattle.coding.proofs.Passing.{start_le, going_start, going_on, going_turn, g
 use Rattle.coding.proofs.lower.Goals as goal
 
 pub loop-k-init : goal.loop-k-init
-loop-k-init c = (omega arith, refl, refl, refl, c.requires.small, going_start _ _ _ _ _ _ _ _ _ _ c.requires.shallow)
-
-pub offset_bounds-words-k : goal.offset_bounds-words-k
-offset_bounds-words-k c = omega arith
-
-pub bounds-words-k : goal.bounds-words-k
-bounds-words-k c = omega arith
-
-pub statement-requires : goal.statement-requires
-statement-requires c = tt
-
-pub overflow_add-k : goal.overflow_add-k
-overflow_add-k c = omega arith
-
-pub loop-k-smaller-then-not-statement : goal.loop-k-smaller-then-not-statement
-loop-k-smaller-then-not-statement c = omega arith
+loop-k-init c = (refl, refl, refl, c.requires.small, going_start _ _ _ _ _ _ _ _ _ _ c.requires.shallow)
 
 pub loop-k-preserved-then-not-statement : goal.loop-k-preserved-then-not-statement
 loop-k-preserved-then-not-statement c = let l = c.loop-k in
     let i = l.invariant in
-    (omega arith, i.1, i.2, i.3, i.4, going_on _ _ _ _ _ _ _ _ _ _ _ _ _ _ l.k _ c.loop-k-test.true refl i.5 (sym c.statement.ensures ∙ not-true _ c.if-not-statement.true-raw))
+    (i.0, i.1, i.2, i.3, going_on _ _ _ _ _ _ _ _ _ _ _ _ _ _ l.k _ c.loop-k-test.true refl i.4 (sym c.statement.ensures ∙ not-true _ c.if-not-statement.true-raw))
 
 pub note_depth-deep-requires : goal.note_depth-deep-requires
-note_depth-deep-requires c = let g = c.loop-k.invariant.5 in
+note_depth-deep-requires c = let g = c.loop-k.invariant.4 in
     record { deep_bound = omega (arith, g.bound, c.requires.tokens_in_bounds); shallow = g.shallow }
 
 pub lower_statement-requires : goal.lower_statement-requires
 lower_statement-requires c = let l = c.loop-k in
     let i = l.invariant in
     let p = c.requires.tokens_in_bounds in
-    record { s_le_k = (omega (arith, i.5.begins, start_le c.args.words.now l.k), (c.loop-k-test.true, (omega arith, (omega arith, omega (arith, i.5.same_length))))); shallow = c.note_depth-deep.ensures.shallow_2; small = i.4 }
-
-pub overflow_add-k-in-loop-k : goal.overflow_add-k-in-loop-k
-overflow_add-k-in-loop-k c = omega (arith, c.loop-k-test.true, c.requires.tokens_in_bounds)
-
-pub loop-k-smaller : goal.loop-k-smaller
-loop-k-smaller c = omega (arith, c.loop-k-test.true)
+    record { s_le_k = (omega (arith, i.4.begins, start_le c.args.words.now l.k), (c.loop-k-test.true, (omega arith, (omega arith, omega (arith, i.4.same_length))))); shallow = c.note_depth-deep.ensures.shallow_2; small = i.3 }
 
 pub loop-k-preserved : goal.loop-k-preserved
 loop-k-preserved c = let l = c.loop-k in
     let i = l.invariant in (
-      omega (arith, c.loop-k-test.true),
-      omega (arith, c.depths-1.given, i.1),
-      omega (arith, c.codes-1.given, i.2),
-      omega (arith, c.fr-1.given, i.3),
+      omega (arith, i.0),
+      omega (arith, i.1),
+      omega (arith, i.2),
       c.lower_statement.ensures.small_2,
-      going_turn _ _ _ _ _ _ _ _ _ _ _ _ _ _ l.k _ c.loop-k-test.true refl i.5 _ _ _ c.note_depth-deep.ensures.depths_value.0 c.note_depth-deep.ensures.depths_value.1.0 c.lower_statement.ensures.turned
+      going_turn _ _ _ _ _ _ _ _ _ _ _ _ _ _ l.k _ c.loop-k-test.true refl i.4 _ _ _ c.note_depth-deep.ensures.depths_value.0 c.note_depth-deep.ensures.depths_value.1.0 c.lower_statement.ensures.turned
           (sym c.statement.ensures ∙ not-false _ c.if-not-statement.false-raw) c.note_depth-deep.ensures.depths_value.1.1 c.note_depth-deep.ensures.shallow_2,
     )
 
@@ -66,8 +43,8 @@ pub shape_of-fr : goal.shape_of-fr
 shape_of-fr c = omega arith
 
 pub shape_of-low : goal.shape_of-low
-shape_of-low c = c.loop-k.invariant.5.same_length
+shape_of-low c = c.loop-k.invariant.4.same_length
 
 pub returns : goal.returns
-returns c = let g = c.loop-k.invariant.5 in
+returns c = let g = c.loop-k.invariant.4 in
     record { passed = going_end _ _ _ _ _ _ _ _ _ _ _ _ _ _ _ c.loop-k-test.false g; by_index = (g.rest, g.same_length) }

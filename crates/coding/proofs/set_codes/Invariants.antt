@@ -1,11 +1,7 @@
-use Prim.Native.Nat.{◌-◌, ◌≤◌}
 use mathlib.Core.Path.{◌≡◌}
 use lib.ListN.{length}
 use Rattle.coding.specs.Turns.{Coded}
 use Rattle.coding.proofs.set_codes.Given as goal
 
 abbrev pub invariant-loop-i : goal.invariant-loop-i
-invariant-loop-i l = (l.s ≤ l.i) × (l.i ≤ l.e) × (length l.codes ≡ length l.initial.codes) × Coded l.facts l.query l.places l.tokens l.ids l.known l.f l.depths l.words l.codes l.s l.i
-
-abbrev pub decreases-loop-i : goal.decreases-loop-i
-decreases-loop-i l = l.e - l.i
+invariant-loop-i l = (length l.codes ≡ length l.initial.codes) × Coded l.facts l.query l.places l.tokens l.ids l.known l.f l.depths l.words l.codes l.s l.i

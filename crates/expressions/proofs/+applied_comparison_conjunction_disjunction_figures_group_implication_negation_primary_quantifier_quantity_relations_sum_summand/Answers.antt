@@ -1,8 +1,10 @@
+use Rattle.std.specs.Prelude.{Ok}
 use native.Mathlib.Omega.{arith}
 use mathlib.Core.Path.{refl, sym, ◌∙◌}
 use Prim.Native.Nat.{◌+◌, ◌-◌}
 use mathlib.Core.Logic.{inl, inr, ⊎_elim}
 use lib.ListN.{length}
+use Rattle.std.proofs.lemmas.Result.{err_from_is_err_and}
 use Rattle.expressions.proofs.BracketLaws.{brackets_close, group_reads, group_deep, applies_small, applied_deep, applied_open, applied_reads, closed_room, bound_of, quantifier_law, quantifier_within, quantifier_deep, quantifier_unbound, quantifier_reads, bind_room, ex_here, fa_here, closure_here, hash_here, plain_here}
 use Rattle.expressions.proofs.OperatorLaws.{paid_of, tail_stops, comparison_tail, consequent_tail, no_sign_ends, sign_joins, no_arrow_ends, implies_joins, iff_joins, Linked, or_chain, and_chain, or_whole, and_whole, chain_starts, chain_stops, chain_paid, chain_ends, chain_on, chain_less, left, negation_deep, negation_plain, negation_wraps, join_room, wrap_room}
 use Rattle.expressions.proofs.QuantityLaws.{sum_chain, chain_ninth, sum_on, sum_paid, sum_room, quantity_stops, quantity_ends, quantity_joins, figures_stop, figures_alone, figures_join}
@@ -31,108 +33,26 @@ comparison-figures-requires t c = (omega arith, (rw c.if-begins_quantity.true at
 pub comparison-relations-requires : goal.comparison-relations-requires
 comparison-relations-requires t c = (omega arith, (rw c.if-begins_quantity.false at c.begins_quantity.ensures, c.requires))
 
-pub conjunction-shape_of-words-in_default : goal.conjunction-shape_of-words-in_default
-conjunction-shape_of-words-in_default t c =
-    let conjunction_sofar : Linked and_chain 0 c.args.tokens.now c.args.p c.args.n c.args.d c.args.words.now c.loop-a.words 0 c.loop-a.a = c.loop-a.invariant c.args.words.now (chain_starts and_chain 0 c.negation-a.ensures c.negation-a.auto.words) in
-    (conjunction_sofar).long
-
-pub conjunction-returns-in_default : goal.conjunction-returns-in_default
-conjunction-returns-in_default t c =
-    let conjunction_sofar : Linked and_chain 0 c.args.tokens.now c.args.p c.args.n c.args.d c.args.words.now c.loop-a.words 0 c.loop-a.a = c.loop-a.invariant c.args.words.now (chain_starts and_chain 0 c.negation-a.ensures c.negation-a.auto.words) in
-    and_whole (chain_stops and_chain 0 (conjunction_sofar) c.in_default.is)
-
-pub conjunction-shape_of-words-then-kind_at-ne9 : goal.conjunction-shape_of-words-then-kind_at-ne9
-conjunction-shape_of-words-then-kind_at-ne9 t c =
-    let conjunction_sofar : Linked and_chain 0 c.args.tokens.now c.args.p c.args.n c.args.d c.args.words.now c.loop-a.words 0 c.loop-a.a = c.loop-a.invariant c.args.words.now (chain_starts and_chain 0 c.negation-a.ensures c.negation-a.auto.words) in
-    (conjunction_sofar).long
-
-pub conjunction-returns-then-kind_at-ne9 : goal.conjunction-returns-then-kind_at-ne9
-conjunction-returns-then-kind_at-ne9 t c =
-    let conjunction_sofar : Linked and_chain 0 c.args.tokens.now c.args.p c.args.n c.args.d c.args.words.now c.loop-a.words 0 c.loop-a.a = c.loop-a.invariant c.args.words.now (chain_starts and_chain 0 c.negation-a.ensures c.negation-a.auto.words) in
-    and_whole (chain_ends and_chain 0 (conjunction_sofar) c.in-Read.is (λ e. c.if-kind_at-ne9.true (c.kind_at.ensures ∙ e)))
-
-pub conjunction-overflow_add-q : goal.conjunction-overflow_add-q
-conjunction-overflow_add-q t c =
-    let conjunction_sofar : Linked and_chain 0 c.args.tokens.now c.args.p c.args.n c.args.d c.args.words.now c.loop-a.words 0 c.loop-a.a = c.loop-a.invariant c.args.words.now (chain_starts and_chain 0 c.negation-a.ensures c.negation-a.auto.words) in
-    let o = chain_paid and_chain 0 (conjunction_sofar) c.in-Read.is in omega arith
-
-pub conjunction-negation-b-requires : goal.conjunction-negation-b-requires
-conjunction-negation-b-requires t c =
-    let conjunction_sofar : Linked and_chain 0 c.args.tokens.now c.args.p c.args.n c.args.d c.args.words.now c.loop-a.words 0 c.loop-a.a = c.loop-a.invariant c.args.words.now (chain_starts and_chain 0 c.negation-a.ensures c.negation-a.auto.words) in
-    let h = conjunction_sofar in let o = chain_paid and_chain 0 h c.in-Read.is in let l = kind_within c.args.tokens.now c.in-Read.q (omega (arith, c.kind_at.ensures)) in omega (arith, h.long)
-
-pub conjunction-join-a-requires : goal.conjunction-join-a-requires
-conjunction-join-a-requires t c =
-    let conjunction_sofar : Linked and_chain 0 c.args.tokens.now c.args.p c.args.n c.args.d c.args.words.now c.loop-a.words 0 c.loop-a.a = c.loop-a.invariant c.args.words.now (chain_starts and_chain 0 c.negation-a.ensures c.negation-a.auto.words) in
-    let h = conjunction_sofar in let o = chain_paid and_chain 0 h c.in-Read.is in let l = kind_within c.args.tokens.now c.in-Read.q (omega (arith, c.kind_at.ensures)) in join_room 15 0 c.negation-b.ensures (omega arith) (omega arith) (omega arith) (omega arith) (omega arith) (omega (arith, h.long))
-
-pub conjunction-loop-a-smaller : goal.conjunction-loop-a-smaller
-conjunction-loop-a-smaller t c = chain_less 15 _ _ c.in-Read.is (kind_within c.args.tokens.now c.in-Read.q (omega (arith, c.kind_at.ensures))) c.negation-b.ensures c.join-a.ensures
-
-pub conjunction-loop-a-preserved : goal.conjunction-loop-a-preserved
-conjunction-loop-a-preserved t c = λ A s. let h = c.loop-a.invariant A s in chain_on and_chain 0 h c.in-Read.is (omega arith) (sym c.kind_at.ensures ∙ c.if-kind_at-ne9.false) c.negation-b.ensures c.join-a.ensures (c.join-a.auto.words ∙ c.negation-b.auto.words ∙ h.long)
-
-pub disjunction-shape_of-words-in_default : goal.disjunction-shape_of-words-in_default
-disjunction-shape_of-words-in_default t c =
-    let disjunction_sofar : Linked or_chain 0 c.args.tokens.now c.args.p c.args.n c.args.d c.args.words.now c.loop-a.words 0 c.loop-a.a = c.loop-a.invariant c.args.words.now (chain_starts or_chain 0 c.conjunction-a.ensures c.conjunction-a.auto.words) in
-    (disjunction_sofar).long
-
-pub disjunction-returns-in_default : goal.disjunction-returns-in_default
-disjunction-returns-in_default t c =
-    let disjunction_sofar : Linked or_chain 0 c.args.tokens.now c.args.p c.args.n c.args.d c.args.words.now c.loop-a.words 0 c.loop-a.a = c.loop-a.invariant c.args.words.now (chain_starts or_chain 0 c.conjunction-a.ensures c.conjunction-a.auto.words) in
-    or_whole (chain_stops or_chain 0 (disjunction_sofar) c.in_default.is)
-
-pub disjunction-shape_of-words-then-kind_at-ne10 : goal.disjunction-shape_of-words-then-kind_at-ne10
-disjunction-shape_of-words-then-kind_at-ne10 t c =
-    let disjunction_sofar : Linked or_chain 0 c.args.tokens.now c.args.p c.args.n c.args.d c.args.words.now c.loop-a.words 0 c.loop-a.a = c.loop-a.invariant c.args.words.now (chain_starts or_chain 0 c.conjunction-a.ensures c.conjunction-a.auto.words) in
-    (disjunction_sofar).long
-
-pub disjunction-returns-then-kind_at-ne10 : goal.disjunction-returns-then-kind_at-ne10
-disjunction-returns-then-kind_at-ne10 t c =
-    let disjunction_sofar : Linked or_chain 0 c.args.tokens.now c.args.p c.args.n c.args.d c.args.words.now c.loop-a.words 0 c.loop-a.a = c.loop-a.invariant c.args.words.now (chain_starts or_chain 0 c.conjunction-a.ensures c.conjunction-a.auto.words) in
-    or_whole (chain_ends or_chain 0 (disjunction_sofar) c.in-Read.is (λ e. c.if-kind_at-ne10.true (c.kind_at.ensures ∙ e)))
-
-pub disjunction-overflow_add-q : goal.disjunction-overflow_add-q
-disjunction-overflow_add-q t c =
-    let disjunction_sofar : Linked or_chain 0 c.args.tokens.now c.args.p c.args.n c.args.d c.args.words.now c.loop-a.words 0 c.loop-a.a = c.loop-a.invariant c.args.words.now (chain_starts or_chain 0 c.conjunction-a.ensures c.conjunction-a.auto.words) in
-    let o = chain_paid or_chain 0 (disjunction_sofar) c.in-Read.is in omega arith
-
-pub disjunction-conjunction-b-requires : goal.disjunction-conjunction-b-requires
-disjunction-conjunction-b-requires t c =
-    let disjunction_sofar : Linked or_chain 0 c.args.tokens.now c.args.p c.args.n c.args.d c.args.words.now c.loop-a.words 0 c.loop-a.a = c.loop-a.invariant c.args.words.now (chain_starts or_chain 0 c.conjunction-a.ensures c.conjunction-a.auto.words) in
-    let h = disjunction_sofar in let o = chain_paid or_chain 0 h c.in-Read.is in let l = kind_within c.args.tokens.now c.in-Read.q (omega (arith, c.kind_at.ensures)) in omega (arith, h.long)
-
-pub disjunction-join-a-requires : goal.disjunction-join-a-requires
-disjunction-join-a-requires t c =
-    let disjunction_sofar : Linked or_chain 0 c.args.tokens.now c.args.p c.args.n c.args.d c.args.words.now c.loop-a.words 0 c.loop-a.a = c.loop-a.invariant c.args.words.now (chain_starts or_chain 0 c.conjunction-a.ensures c.conjunction-a.auto.words) in
-    let h = disjunction_sofar in let o = chain_paid or_chain 0 h c.in-Read.is in let l = kind_within c.args.tokens.now c.in-Read.q (omega (arith, c.kind_at.ensures)) in join_room 16 0 c.conjunction-b.ensures (omega arith) (omega arith) (omega arith) (omega arith) (omega arith) (omega (arith, h.long))
-
-pub disjunction-loop-a-smaller : goal.disjunction-loop-a-smaller
-disjunction-loop-a-smaller t c = chain_less 16 _ _ c.in-Read.is (kind_within c.args.tokens.now c.in-Read.q (omega (arith, c.kind_at.ensures))) c.conjunction-b.ensures c.join-a.ensures
-
-pub disjunction-loop-a-preserved : goal.disjunction-loop-a-preserved
-disjunction-loop-a-preserved t c = λ A s. let h = c.loop-a.invariant A s in chain_on or_chain 0 h c.in-Read.is (omega arith) (sym c.kind_at.ensures ∙ c.if-kind_at-ne10.false) c.conjunction-b.ensures c.join-a.ensures (c.join-a.auto.words ∙ c.conjunction-b.auto.words ∙ h.long)
-
-pub figures-returns-in_default : goal.figures-returns-in_default
-figures-returns-in_default t c = figures_stop c.requires.0 c.quantity-a.ensures c.in_default.is
+pub figures-returns-in_err-q : goal.figures-returns-in_err-q
+figures-returns-in_err-q t c = let p = err_from_is_err_and c.from_residual.result c.from_residual.ensures.1 in rw (p.1, p.2) (figures_stop c.requires.0 c.quantity.ensures c.in_err-q.was)
 
 pub figures-returns-then-g-lt41 : goal.figures-returns-then-g-lt41
-figures-returns-then-g-lt41 t c = figures_alone c.requires.0 c.quantity-a.ensures c.in-Read.is (λ l h. omega (arith, c.kind_at-g.ensures, c.if-g-lt41.true))
+figures-returns-then-g-lt41 t c = figures_alone c.requires.0 c.quantity.ensures c.in_ok-q.was (λ l h. omega (arith, c.kind_at-g.ensures, c.if-g-lt41.true))
 
 pub figures-returns-then-g-gt46 : goal.figures-returns-then-g-gt46
-figures-returns-then-g-gt46 t c = figures_alone c.requires.0 c.quantity-a.ensures c.in-Read.is (λ l h. omega (arith, c.kind_at-g.ensures, c.if-g-gt46.true))
+figures-returns-then-g-gt46 t c = figures_alone c.requires.0 c.quantity.ensures c.in_ok-q.was (λ l h. omega (arith, c.kind_at-g.ensures, c.if-g-gt46.true))
 
 pub figures-overflow_add-q : goal.figures-overflow_add-q
-figures-overflow_add-q t c = let o = paid_of c.quantity-a.ensures c.in-Read.is in omega arith
+figures-overflow_add-q t c = let o = paid_of c.quantity.ensures c.in_ok-q.was in omega arith
 
 pub figures-quantity-b-requires : goal.figures-quantity-b-requires
-figures-quantity-b-requires t c = let o = paid_of c.quantity-a.ensures c.in-Read.is in let l = kind_within c.args.tokens.now c.in-Read.q (omega (arith, c.kind_at-g.ensures)) in omega arith
+figures-quantity-b-requires t c = let o = paid_of c.quantity.ensures c.in_ok-q.was in let l = kind_within c.args.tokens.now c.in_ok-q.q (omega (arith, c.kind_at-g.ensures)) in omega arith
 
 pub figures-join-requires : goal.figures-join-requires
-figures-join-requires t c = let o = paid_of c.quantity-a.ensures c.in-Read.is in let l = kind_within c.args.tokens.now c.in-Read.q (omega (arith, c.kind_at-g.ensures)) in join_room 28 _ c.quantity-b.ensures (omega arith) (omega arith) (omega arith) (omega arith) (omega arith) (omega arith)
+figures-join-requires t c = let o = paid_of c.quantity.ensures c.in_ok-q.was in let l = kind_within c.args.tokens.now c.in_ok-q.q (omega (arith, c.kind_at-g.ensures)) in join_room 28 _ c.quantity-b.ensures (omega arith) (omega arith) (omega arith) (omega arith) (omega arith) (omega arith)
 
 pub figures-returns : goal.figures-returns
-figures-returns t c = figures_join c.requires.0 c.quantity-a.ensures c.in-Read.is (omega arith) (omega (arith, c.kind_at-g.ensures, c.if-g-lt41.false)) (omega (arith, c.kind_at-g.ensures, c.if-g-gt46.false)) c.quantity-b.ensures (rw c.kind_at-g.ensures at c.join.ensures)
+figures-returns t c = figures_join c.requires.0 c.quantity.ensures c.in_ok-q.was (omega arith) (omega (arith, c.kind_at-g.ensures, c.if-g-lt41.false)) (omega (arith, c.kind_at-g.ensures, c.if-g-gt46.false)) c.quantity-b.ensures (rw c.kind_at-g.ensures at c.join.ensures)
 
 pub group-returns-then-d-ge32 : goal.group-returns-then-d-ge32
 group-returns-then-d-ge32 t c = group_deep c.if-d-ge32.true c.requires.0
@@ -143,35 +63,35 @@ group-comparison-a-requires t c = let l = kind_within c.args.tokens.now c.args.p
 pub group-returns : goal.group-returns
 group-returns t c = group_reads c.if-d-ge32.false c.requires.0 (brackets_close c.comparison-a.ensures c.close.ensures)
 
-pub implication-returns-in_default : goal.implication-returns-in_default
-implication-returns-in_default t c = tail_stops consequent_tail c.disjunction-a.ensures c.in_default.is
+pub implication-returns-in_err-q : goal.implication-returns-in_err-q
+implication-returns-in_err-q t c = let p = err_from_is_err_and c.from_residual.result c.from_residual.ensures.1 in rw (p.1, p.2) (tail_stops consequent_tail c.disjunction.ensures c.in_err-q.was)
 
 pub implication-overflow_add-q : goal.implication-overflow_add-q
-implication-overflow_add-q t c = let o = paid_of c.disjunction-a.ensures c.in-Read.is in omega arith
+implication-overflow_add-q t c = let o = paid_of c.disjunction.ensures c.in_ok-q.was in omega arith
 
 pub implication-disjunction-b-requires : goal.implication-disjunction-b-requires
-implication-disjunction-b-requires t c = let o = paid_of c.disjunction-a.ensures c.in-Read.is in let l = kind_within c.args.tokens.now c.in-Read.q (omega (arith, c.kind_at.ensures, c.in-12.is)) in omega arith
+implication-disjunction-b-requires t c = let o = paid_of c.disjunction.ensures c.in_ok-q.was in let l = kind_within c.args.tokens.now c.in_ok-q.q (omega (arith, c.kind_at.ensures, c.in-12.is)) in omega arith
 
 pub implication-join-requires : goal.implication-join-requires
-implication-join-requires t c = let o = paid_of c.disjunction-a.ensures c.in-Read.is in let l = kind_within c.args.tokens.now c.in-Read.q (omega (arith, c.kind_at.ensures, c.in-12.is)) in join_room 17 0 c.disjunction-b.ensures (omega arith) (omega arith) (omega arith) (omega arith) (omega arith) (omega arith)
+implication-join-requires t c = let o = paid_of c.disjunction.ensures c.in_ok-q.was in let l = kind_within c.args.tokens.now c.in_ok-q.q (omega (arith, c.kind_at.ensures, c.in-12.is)) in join_room 17 0 c.disjunction-b.ensures (omega arith) (omega arith) (omega arith) (omega arith) (omega arith) (omega arith)
 
 pub implication-overflow_add-q-in-13 : goal.implication-overflow_add-q-in-13
-implication-overflow_add-q-in-13 t c = let o = paid_of c.disjunction-a.ensures c.in-Read.is in omega arith
+implication-overflow_add-q-in-13 t c = let o = paid_of c.disjunction.ensures c.in_ok-q.was in omega arith
 
 pub implication-disjunction-b-requires-in-13 : goal.implication-disjunction-b-requires-in-13
-implication-disjunction-b-requires-in-13 t c = let o = paid_of c.disjunction-a.ensures c.in-Read.is in let l = kind_within c.args.tokens.now c.in-Read.q (omega (arith, c.kind_at.ensures, c.in-13.is)) in omega arith
+implication-disjunction-b-requires-in-13 t c = let o = paid_of c.disjunction.ensures c.in_ok-q.was in let l = kind_within c.args.tokens.now c.in_ok-q.q (omega (arith, c.kind_at.ensures, c.in-13.is)) in omega arith
 
 pub implication-join-requires-in-13 : goal.implication-join-requires-in-13
-implication-join-requires-in-13 t c = let o = paid_of c.disjunction-a.ensures c.in-Read.is in let l = kind_within c.args.tokens.now c.in-Read.q (omega (arith, c.kind_at.ensures, c.in-13.is)) in join_room 18 0 c.disjunction-b-in-13.ensures (omega arith) (omega arith) (omega arith) (omega arith) (omega arith) (omega arith)
+implication-join-requires-in-13 t c = let o = paid_of c.disjunction.ensures c.in_ok-q.was in let l = kind_within c.args.tokens.now c.in_ok-q.q (omega (arith, c.kind_at.ensures, c.in-13.is)) in join_room 18 0 c.disjunction-b-in-13.ensures (omega arith) (omega arith) (omega arith) (omega arith) (omega arith) (omega arith)
 
 pub implication-returns-in-12 : goal.implication-returns-in-12
-implication-returns-in-12 t c = implies_joins c.in-Read.is c.disjunction-a.ensures (omega arith) (sym c.kind_at.ensures ∙ c.in-12.is) c.disjunction-b.ensures c.join.ensures
+implication-returns-in-12 t c = implies_joins c.in_ok-q.was c.disjunction.ensures (omega arith) (sym c.kind_at.ensures ∙ c.in-12.is) c.disjunction-b.ensures c.join.ensures
 
 pub implication-returns-in-13 : goal.implication-returns-in-13
-implication-returns-in-13 t c = iff_joins c.in-Read.is c.disjunction-a.ensures (omega arith) (sym c.kind_at.ensures ∙ c.in-13.is) c.disjunction-b-in-13.ensures c.join-in-13.ensures
+implication-returns-in-13 t c = iff_joins c.in_ok-q.was c.disjunction.ensures (omega arith) (sym c.kind_at.ensures ∙ c.in-13.is) c.disjunction-b-in-13.ensures c.join-in-13.ensures
 
-pub implication-returns-in_default-kind_at : goal.implication-returns-in_default-kind_at
-implication-returns-in_default-kind_at t c = no_arrow_ends c.in-Read.is c.disjunction-a.ensures (λ e. c.in_default-kind_at.in_default-kind_at-own.rest.0.1 (c.kind_at.ensures ∙ e)) (λ e. c.in_default-kind_at.in_default-kind_at-own.rest.1 (c.kind_at.ensures ∙ e))
+pub implication-returns-in_default : goal.implication-returns-in_default
+implication-returns-in_default t c = no_arrow_ends c.in_ok-q.was c.disjunction.ensures (λ e. c.in_default.in_default-own.rest.0.1 (c.kind_at.ensures ∙ e)) (λ e. c.in_default.in_default-own.rest.1 (c.kind_at.ensures ∙ e))
 
 pub negation-returns-then-kind_at-ne11 : goal.negation-returns-then-kind_at-ne11
 negation-returns-then-kind_at-ne11 t c = negation_plain (λ e. c.if-kind_at-ne11.true (c.kind_at.ensures ∙ e)) c.primary.ensures
@@ -213,115 +133,59 @@ primary-returns-in_default t c = c.atom.ensures _ (omega arith)
 pub quantifier-returns-then-d-ge32 : goal.quantifier-returns-then-d-ge32
 quantifier-returns-then-d-ge32 t c = quantifier_deep _ _ _ _ _ _ c.requires.0 c.if-d-ge32.true
 
-pub quantifier-attributes-f-requires : goal.quantifier-attributes-f-requires
-quantifier-attributes-f-requires t c = let l = quantifier_within c.args.tokens.now c.args.p c.args.n c.args.d c.args.kind c.args.words.now c.requires.0 in omega arith
+pub quantifier-attributes-requires : goal.quantifier-attributes-requires
+quantifier-attributes-requires t c = let l = quantifier_within c.args.tokens.now c.args.p c.args.n c.args.d c.args.kind c.args.words.now c.requires.0 in omega arith
 
-pub quantifier-returns-in_default : goal.quantifier-returns-in_default
-quantifier-returns-in_default t c = quantifier_unbound _ _ _ _ _ _ c.requires.0 c.if-d-ge32.false c.attributes-f.ensures c.in_default.is
+pub quantifier-returns-in_err-q : goal.quantifier-returns-in_err-q
+quantifier-returns-in_err-q t c = let p = err_from_is_err_and c.from_residual.result c.from_residual.ensures.1 in rw (p.1, p.2) (quantifier_unbound _ _ _ _ _ _ c.requires.0 c.if-d-ge32.false c.attributes.ensures c.in_err-q.was)
 
 pub quantifier-comparison-a-requires : goal.quantifier-comparison-a-requires
-quantifier-comparison-a-requires t c = let b = bound_of c.attributes-f.ensures c.in-Read.is in omega arith
+quantifier-comparison-a-requires t c = let b = bound_of c.attributes.ensures c.in_ok-q.was in omega arith
 
 pub quantifier-bind-requires : goal.quantifier-bind-requires
-quantifier-bind-requires t c = let b = bound_of c.attributes-f.ensures c.in-Read.is in bind_room (quantifier_law c.requires.0).small b (brackets_close c.comparison-a.ensures c.close-b.ensures) (omega arith) (omega arith) (omega arith)
+quantifier-bind-requires t c = let b = bound_of c.attributes.ensures c.in_ok-q.was in bind_room (quantifier_law c.requires.0).small b (brackets_close c.comparison-a.ensures c.close-b.ensures) (omega arith) (omega arith) (omega arith)
 
 pub quantifier-returns : goal.quantifier-returns
-quantifier-returns t c = quantifier_reads _ _ _ _ _ _ c.requires.0 c.if-d-ge32.false c.attributes-f.ensures c.in-Read.is (brackets_close c.comparison-a.ensures c.close-b.ensures) c.bind.ensures
+quantifier-returns t c = quantifier_reads _ _ _ _ _ _ c.requires.0 c.if-d-ge32.false c.attributes.ensures c.in_ok-q.was (brackets_close c.comparison-a.ensures c.close-b.ensures) c.bind.ensures
 
-pub quantity-returns-in_default : goal.quantity-returns-in_default
-quantity-returns-in_default t c = quantity_stops c.sum-a.ensures c.in_default.is
+pub quantity-returns-in_err-q : goal.quantity-returns-in_err-q
+quantity-returns-in_err-q t c = let p = err_from_is_err_and c.from_residual.result c.from_residual.ensures.1 in rw (p.1, p.2) (quantity_stops c.sum.ensures c.in_err-q.was)
 
 pub quantity-returns-then-kind_at-ne52 : goal.quantity-returns-then-kind_at-ne52
-quantity-returns-then-kind_at-ne52 t c = quantity_ends c.sum-a.ensures c.in-Read.is (λ e. c.if-kind_at-ne52.true (c.kind_at.ensures ∙ e))
+quantity-returns-then-kind_at-ne52 t c = quantity_ends c.sum.ensures c.in_ok-q.was (λ e. c.if-kind_at-ne52.true (c.kind_at.ensures ∙ e))
 
 pub quantity-overflow_add-q : goal.quantity-overflow_add-q
-quantity-overflow_add-q t c = let o = sum_paid c.sum-a.ensures c.in-Read.is in omega arith
+quantity-overflow_add-q t c = let o = sum_paid c.sum.ensures c.in_ok-q.was in omega arith
 
 pub quantity-sum-b-requires : goal.quantity-sum-b-requires
-quantity-sum-b-requires t c = let o = sum_paid c.sum-a.ensures c.in-Read.is in let l = kind_within c.args.tokens.now c.in-Read.q (omega (arith, c.kind_at.ensures)) in omega arith
+quantity-sum-b-requires t c = let o = sum_paid c.sum.ensures c.in_ok-q.was in let l = kind_within c.args.tokens.now c.in_ok-q.q (omega (arith, c.kind_at.ensures)) in omega arith
 
 pub quantity-join-requires : goal.quantity-join-requires
-quantity-join-requires t c = let o = sum_paid c.sum-a.ensures c.in-Read.is in let l = kind_within c.args.tokens.now c.in-Read.q (omega (arith, c.kind_at.ensures)) in sum_room _ c.sum-b.ensures (omega arith) (omega arith) (omega arith) (omega arith) (omega arith)
+quantity-join-requires t c = let o = sum_paid c.sum.ensures c.in_ok-q.was in let l = kind_within c.args.tokens.now c.in_ok-q.q (omega (arith, c.kind_at.ensures)) in sum_room _ c.sum-b.ensures (omega arith) (omega arith) (omega arith) (omega arith) (omega arith)
 
 pub quantity-returns : goal.quantity-returns
-quantity-returns t c = quantity_joins c.sum-a.ensures c.in-Read.is (omega arith) (sym c.kind_at.ensures ∙ c.if-kind_at-ne52.false) c.sum-b.ensures c.join.ensures
+quantity-returns t c = quantity_joins c.sum.ensures c.in_ok-q.was (omega arith) (sym c.kind_at.ensures ∙ c.if-kind_at-ne52.false) c.sum-b.ensures c.join.ensures
 
-pub relations-returns-in_default : goal.relations-returns-in_default
-relations-returns-in_default t c = tail_stops (comparison_tail _ _ c.requires.0) c.implication-a.ensures c.in_default.is
+pub relations-returns-in_err-q : goal.relations-returns-in_err-q
+relations-returns-in_err-q t c = let p = err_from_is_err_and c.from_residual.result c.from_residual.ensures.1 in rw (p.1, p.2) (tail_stops (comparison_tail _ _ c.requires.0) c.implication.ensures c.in_err-q.was)
 
 pub relations-returns-then-g-lt41 : goal.relations-returns-then-g-lt41
-relations-returns-then-g-lt41 t c = no_sign_ends c.in-Read.is c.requires.0 c.implication-a.ensures (λ l h. omega (arith, c.kind_at-g.ensures, c.if-g-lt41.true))
+relations-returns-then-g-lt41 t c = no_sign_ends c.in_ok-q.was c.requires.0 c.implication.ensures (λ l h. omega (arith, c.kind_at-g.ensures, c.if-g-lt41.true))
 
 pub relations-returns-then-g-gt46 : goal.relations-returns-then-g-gt46
-relations-returns-then-g-gt46 t c = no_sign_ends c.in-Read.is c.requires.0 c.implication-a.ensures (λ l h. omega (arith, c.kind_at-g.ensures, c.if-g-gt46.true))
+relations-returns-then-g-gt46 t c = no_sign_ends c.in_ok-q.was c.requires.0 c.implication.ensures (λ l h. omega (arith, c.kind_at-g.ensures, c.if-g-gt46.true))
 
 pub relations-overflow_add-q : goal.relations-overflow_add-q
-relations-overflow_add-q t c = let o = paid_of c.implication-a.ensures c.in-Read.is in omega arith
+relations-overflow_add-q t c = let o = paid_of c.implication.ensures c.in_ok-q.was in omega arith
 
 pub relations-implication-b-requires : goal.relations-implication-b-requires
-relations-implication-b-requires t c = let o = paid_of c.implication-a.ensures c.in-Read.is in let l = kind_within c.args.tokens.now c.in-Read.q (omega (arith, c.kind_at-g.ensures)) in omega arith
+relations-implication-b-requires t c = let o = paid_of c.implication.ensures c.in_ok-q.was in let l = kind_within c.args.tokens.now c.in_ok-q.q (omega (arith, c.kind_at-g.ensures)) in omega arith
 
 pub relations-join-requires : goal.relations-join-requires
-relations-join-requires t c = let o = paid_of c.implication-a.ensures c.in-Read.is in let l = kind_within c.args.tokens.now c.in-Read.q (omega (arith, c.kind_at-g.ensures)) in join_room 22 _ c.implication-b.ensures (omega arith) (omega arith) (omega arith) (omega arith) (omega arith) (omega arith)
+relations-join-requires t c = let o = paid_of c.implication.ensures c.in_ok-q.was in let l = kind_within c.args.tokens.now c.in_ok-q.q (omega (arith, c.kind_at-g.ensures)) in join_room 22 _ c.implication-b.ensures (omega arith) (omega arith) (omega arith) (omega arith) (omega arith) (omega arith)
 
 pub relations-returns : goal.relations-returns
-relations-returns t c = sign_joins c.in-Read.is c.requires.0 c.implication-a.ensures (omega arith) (omega (arith, c.kind_at-g.ensures, c.if-g-lt41.false)) (omega (arith, c.kind_at-g.ensures, c.if-g-gt46.false)) c.implication-b.ensures (rw c.kind_at-g.ensures at c.join.ensures)
-
-pub sum-shape_of-words-in_default : goal.sum-shape_of-words-in_default
-sum-shape_of-words-in_default t c =
-    let sum_sofar : Linked sum_chain 8 c.args.tokens.now c.args.p c.args.n c.args.d c.args.words.now c.loop-a.words c.loop-a.k c.loop-a.a = c.loop-a.invariant c.args.words.now (chain_starts sum_chain 8 c.summand-a.ensures c.summand-a.auto.words) in
-    (sum_sofar).long
-
-pub sum-returns-in_default : goal.sum-returns-in_default
-sum-returns-in_default t c =
-    let sum_sofar : Linked sum_chain 8 c.args.tokens.now c.args.p c.args.n c.args.d c.args.words.now c.loop-a.words c.loop-a.k c.loop-a.a = c.loop-a.invariant c.args.words.now (chain_starts sum_chain 8 c.summand-a.ensures c.summand-a.auto.words) in
-    chain_stops sum_chain 8 (sum_sofar) c.in_default.is
-
-pub sum-shape_of-words-then-kind_at-ne51 : goal.sum-shape_of-words-then-kind_at-ne51
-sum-shape_of-words-then-kind_at-ne51 t c =
-    let sum_sofar : Linked sum_chain 8 c.args.tokens.now c.args.p c.args.n c.args.d c.args.words.now c.loop-a.words c.loop-a.k c.loop-a.a = c.loop-a.invariant c.args.words.now (chain_starts sum_chain 8 c.summand-a.ensures c.summand-a.auto.words) in
-    (sum_sofar).long
-
-pub sum-returns-then-kind_at-ne51 : goal.sum-returns-then-kind_at-ne51
-sum-returns-then-kind_at-ne51 t c =
-    let sum_sofar : Linked sum_chain 8 c.args.tokens.now c.args.p c.args.n c.args.d c.args.words.now c.loop-a.words c.loop-a.k c.loop-a.a = c.loop-a.invariant c.args.words.now (chain_starts sum_chain 8 c.summand-a.ensures c.summand-a.auto.words) in
-    chain_ends sum_chain 8 (sum_sofar) c.in-Read.is (λ e. c.if-kind_at-ne51.true (c.kind_at.ensures ∙ e))
-
-pub sum-overflow_add-q : goal.sum-overflow_add-q
-sum-overflow_add-q t c =
-    let sum_sofar : Linked sum_chain 8 c.args.tokens.now c.args.p c.args.n c.args.d c.args.words.now c.loop-a.words c.loop-a.k c.loop-a.a = c.loop-a.invariant c.args.words.now (chain_starts sum_chain 8 c.summand-a.ensures c.summand-a.auto.words) in
-    let o = chain_paid sum_chain 8 (sum_sofar) c.in-Read.is in omega arith
-
-pub sum-shape_of-words-then-k-eq0 : goal.sum-shape_of-words-then-k-eq0
-sum-shape_of-words-then-k-eq0 t c =
-    let sum_sofar : Linked sum_chain 8 c.args.tokens.now c.args.p c.args.n c.args.d c.args.words.now c.loop-a.words c.loop-a.k c.loop-a.a = c.loop-a.invariant c.args.words.now (chain_starts sum_chain 8 c.summand-a.ensures c.summand-a.auto.words) in
-    (sum_sofar).long
-
-pub sum-returns-then-k-eq0 : goal.sum-returns-then-k-eq0
-sum-returns-then-k-eq0 t c =
-    let sum_sofar : Linked sum_chain 8 c.args.tokens.now c.args.p c.args.n c.args.d c.args.words.now c.loop-a.words c.loop-a.k c.loop-a.a = c.loop-a.invariant c.args.words.now (chain_starts sum_chain 8 c.summand-a.ensures c.summand-a.auto.words) in
-    chain_ninth (sum_sofar) c.in-Read.is c.if-k-eq0.true (omega arith) (sym c.kind_at.ensures ∙ c.if-kind_at-ne51.false) c.ninth.ensures
-
-pub sum-overflow_add-q-in-loop-a : goal.sum-overflow_add-q-in-loop-a
-sum-overflow_add-q-in-loop-a t c =
-    let sum_sofar : Linked sum_chain 8 c.args.tokens.now c.args.p c.args.n c.args.d c.args.words.now c.loop-a.words c.loop-a.k c.loop-a.a = c.loop-a.invariant c.args.words.now (chain_starts sum_chain 8 c.summand-a.ensures c.summand-a.auto.words) in
-    let o = chain_paid sum_chain 8 (sum_sofar) c.in-Read.is in omega arith
-
-pub sum-summand-b-requires : goal.sum-summand-b-requires
-sum-summand-b-requires t c =
-    let sum_sofar : Linked sum_chain 8 c.args.tokens.now c.args.p c.args.n c.args.d c.args.words.now c.loop-a.words c.loop-a.k c.loop-a.a = c.loop-a.invariant c.args.words.now (chain_starts sum_chain 8 c.summand-a.ensures c.summand-a.auto.words) in
-    let h = sum_sofar in let o = chain_paid sum_chain 8 h c.in-Read.is in let l = kind_within c.args.tokens.now c.in-Read.q (omega (arith, c.kind_at.ensures)) in omega (arith, h.long)
-
-pub sum-join-a-requires : goal.sum-join-a-requires
-sum-join-a-requires t c =
-    let sum_sofar : Linked sum_chain 8 c.args.tokens.now c.args.p c.args.n c.args.d c.args.words.now c.loop-a.words c.loop-a.k c.loop-a.a = c.loop-a.invariant c.args.words.now (chain_starts sum_chain 8 c.summand-a.ensures c.summand-a.auto.words) in
-    let h = sum_sofar in let o = chain_paid sum_chain 8 h c.in-Read.is in let l = kind_within c.args.tokens.now c.in-Read.q (omega (arith, c.kind_at.ensures)) in join_room 26 0 c.summand-b.ensures (omega arith) (omega arith) (omega arith) (omega arith) (omega arith) (omega (arith, h.long))
-
-pub sum-loop-a-smaller : goal.sum-loop-a-smaller
-sum-loop-a-smaller t c = chain_less 26 _ _ c.in-Read.is (kind_within c.args.tokens.now c.in-Read.q (omega (arith, c.kind_at.ensures))) c.summand-b.ensures c.join-a.ensures
-
-pub sum-loop-a-preserved : goal.sum-loop-a-preserved
-sum-loop-a-preserved t c = λ A s. let h = c.loop-a.invariant A s in sum_on h c.in-Read.is c.if-k-eq0.false (omega arith) (sym c.kind_at.ensures ∙ c.if-kind_at-ne51.false) c.summand-b.ensures c.join-a.ensures (c.join-a.auto.words ∙ c.summand-b.auto.words ∙ h.long)
+relations-returns t c = sign_joins c.in_ok-q.was c.requires.0 c.implication.ensures (omega arith) (omega (arith, c.kind_at-g.ensures, c.if-g-lt41.false)) (omega (arith, c.kind_at-g.ensures, c.if-g-gt46.false)) c.implication-b.ensures (rw c.kind_at-g.ensures at c.join.ensures)
 
 pub summand-applied-requires : goal.summand-applied-requires
 summand-applied-requires t c = (omega arith, (hash_here (sym c.kind_at.ensures ∙ c.if-kind_at-eq50.true), c.requires))
@@ -353,14 +217,8 @@ comparison-returns-then-begins_quantity t c = c.figures.ensures
 pub comparison-returns-else-begins_quantity : goal.comparison-returns-else-begins_quantity
 comparison-returns-else-begins_quantity t c = c.relations.ensures
 
-pub conjunction-negation-a-requires : goal.conjunction-negation-a-requires
-conjunction-negation-a-requires t c = omega arith
-
-pub disjunction-conjunction-a-requires : goal.disjunction-conjunction-a-requires
-disjunction-conjunction-a-requires t c = omega arith
-
-pub figures-quantity-a-requires : goal.figures-quantity-a-requires
-figures-quantity-a-requires t c = omega arith
+pub figures-quantity-requires : goal.figures-quantity-requires
+figures-quantity-requires t c = omega arith
 
 pub group-overflow_add-p : goal.group-overflow_add-p
 group-overflow_add-p t c = omega arith
@@ -368,8 +226,8 @@ group-overflow_add-p t c = omega arith
 pub group-overflow_add-d : goal.group-overflow_add-d
 group-overflow_add-d t c = omega arith
 
-pub implication-disjunction-a-requires : goal.implication-disjunction-a-requires
-implication-disjunction-a-requires t c = omega arith
+pub implication-disjunction-requires : goal.implication-disjunction-requires
+implication-disjunction-requires t c = omega arith
 
 pub negation-primary-requires : goal.negation-primary-requires
 negation-primary-requires t c = omega arith
@@ -398,11 +256,120 @@ quantifier-overflow_add-p t c = omega arith
 pub quantifier-overflow_add-d : goal.quantifier-overflow_add-d
 quantifier-overflow_add-d t c = omega arith
 
-pub quantity-sum-a-requires : goal.quantity-sum-a-requires
-quantity-sum-a-requires t c = omega arith
+pub quantity-sum-requires : goal.quantity-sum-requires
+quantity-sum-requires t c = omega arith
 
-pub relations-implication-a-requires : goal.relations-implication-a-requires
-relations-implication-a-requires t c = omega arith
+pub relations-implication-requires : goal.relations-implication-requires
+relations-implication-requires t c = omega arith
 
-pub sum-summand-a-requires : goal.sum-summand-a-requires
-sum-summand-a-requires t c = omega arith
+pub conjunction-returns-in_err-q : goal.conjunction-returns-in_err-q
+conjunction-returns-in_err-q t c = let p = err_from_is_err_and c.from_residual.result c.from_residual.ensures.1 in rw (p.1, p.2) (and_whole (chain_stops and_chain 0 (chain_starts and_chain 0 c.negation.ensures c.negation.auto.words) c.in_err-q.was))
+
+pub conjunction-overflow_add-q : goal.conjunction-overflow_add-q
+conjunction-overflow_add-q t c =
+    let sofar : Linked and_chain 0 c.args.tokens.now c.args.p c.args.n c.args.d c.args.words.now c.loop-words.words 0 (Ok (c.loop-words.q, c.loop-words.m)) = c.loop-words.invariant c.args.words.now (rw c.in_ok-q.was at (chain_starts and_chain 0 c.negation.ensures c.negation.auto.words)) in
+    let o = chain_paid and_chain 0 sofar refl in omega arith
+
+pub conjunction-negation-b-requires : goal.conjunction-negation-b-requires
+conjunction-negation-b-requires t c =
+    let sofar : Linked and_chain 0 c.args.tokens.now c.args.p c.args.n c.args.d c.args.words.now c.loop-words.words 0 (Ok (c.loop-words.q, c.loop-words.m)) = c.loop-words.invariant c.args.words.now (rw c.in_ok-q.was at (chain_starts and_chain 0 c.negation.ensures c.negation.auto.words)) in
+    let o = chain_paid and_chain 0 sofar refl in let l = kind_within c.args.tokens.now c.loop-words.q (omega (arith, c.kind_at.ensures)) in omega (arith, sofar.long)
+
+pub conjunction-join-requires : goal.conjunction-join-requires
+conjunction-join-requires t c =
+    let sofar : Linked and_chain 0 c.args.tokens.now c.args.p c.args.n c.args.d c.args.words.now c.loop-words.words 0 (Ok (c.loop-words.q, c.loop-words.m)) = c.loop-words.invariant c.args.words.now (rw c.in_ok-q.was at (chain_starts and_chain 0 c.negation.ensures c.negation.auto.words)) in
+    let o = chain_paid and_chain 0 sofar refl in let l = kind_within c.args.tokens.now c.loop-words.q (omega (arith, c.kind_at.ensures)) in join_room 15 0 c.negation-b.ensures (omega arith) (omega arith) (omega arith) (omega arith) (omega arith) (omega (arith, sofar.long))
+
+pub conjunction-returns-in_err-q-2 : goal.conjunction-returns-in_err-q-2
+conjunction-returns-in_err-q-2 t c =
+    let sofar : Linked and_chain 0 c.args.tokens.now c.args.p c.args.n c.args.d c.args.words.now c.loop-words.words 0 (Ok (c.loop-words.q, c.loop-words.m)) = c.loop-words.invariant c.args.words.now (rw c.in_ok-q.was at (chain_starts and_chain 0 c.negation.ensures c.negation.auto.words)) in
+    let p = err_from_is_err_and c.from_residual-in_err-q-2.result c.from_residual-in_err-q-2.ensures.1 in rw (p.1, p.2) (and_whole (chain_stops and_chain 0 (chain_on and_chain 0 sofar refl (omega arith) (sym c.kind_at.ensures ∙ c.loop-words-test.true) c.negation-b.ensures c.join.ensures (c.join.auto.words ∙ c.negation-b.auto.words ∙ sofar.long)) c.in_err-q-2.was))
+
+pub conjunction-loop-words-smaller : goal.conjunction-loop-words-smaller
+conjunction-loop-words-smaller t c = let h = rw c.in_ok-q-2.was at (chain_less 15 _ _ refl (kind_within c.args.tokens.now c.loop-words.q (omega (arith, c.kind_at.ensures))) c.negation-b.ensures c.join.ensures) in omega (arith, h)
+
+pub conjunction-loop-words-preserved : goal.conjunction-loop-words-preserved
+conjunction-loop-words-preserved t c = λ A s. let h = c.loop-words.invariant A s in rw c.in_ok-q-2.was at (chain_on and_chain 0 h refl (omega arith) (sym c.kind_at.ensures ∙ c.loop-words-test.true) c.negation-b.ensures c.join.ensures (c.join.auto.words ∙ c.negation-b.auto.words ∙ h.long))
+
+pub conjunction-returns : goal.conjunction-returns
+conjunction-returns t c =
+    let sofar : Linked and_chain 0 c.args.tokens.now c.args.p c.args.n c.args.d c.args.words.now c.loop-words.words 0 (Ok (c.loop-words.q, c.loop-words.m)) = c.loop-words.invariant c.args.words.now (rw c.in_ok-q.was at (chain_starts and_chain 0 c.negation.ensures c.negation.auto.words)) in
+    and_whole (chain_ends and_chain 0 sofar refl (λ e. c.loop-words-test.false (c.kind_at.ensures ∙ e)))
+
+pub disjunction-returns-in_err-q : goal.disjunction-returns-in_err-q
+disjunction-returns-in_err-q t c = let p = err_from_is_err_and c.from_residual.result c.from_residual.ensures.1 in rw (p.1, p.2) (or_whole (chain_stops or_chain 0 (chain_starts or_chain 0 c.conjunction.ensures c.conjunction.auto.words) c.in_err-q.was))
+
+pub disjunction-overflow_add-q : goal.disjunction-overflow_add-q
+disjunction-overflow_add-q t c =
+    let sofar : Linked or_chain 0 c.args.tokens.now c.args.p c.args.n c.args.d c.args.words.now c.loop-words.words 0 (Ok (c.loop-words.q, c.loop-words.m)) = c.loop-words.invariant c.args.words.now (rw c.in_ok-q.was at (chain_starts or_chain 0 c.conjunction.ensures c.conjunction.auto.words)) in
+    let o = chain_paid or_chain 0 sofar refl in omega arith
+
+pub disjunction-conjunction-b-requires : goal.disjunction-conjunction-b-requires
+disjunction-conjunction-b-requires t c =
+    let sofar : Linked or_chain 0 c.args.tokens.now c.args.p c.args.n c.args.d c.args.words.now c.loop-words.words 0 (Ok (c.loop-words.q, c.loop-words.m)) = c.loop-words.invariant c.args.words.now (rw c.in_ok-q.was at (chain_starts or_chain 0 c.conjunction.ensures c.conjunction.auto.words)) in
+    let o = chain_paid or_chain 0 sofar refl in let l = kind_within c.args.tokens.now c.loop-words.q (omega (arith, c.kind_at.ensures)) in omega (arith, sofar.long)
+
+pub disjunction-join-requires : goal.disjunction-join-requires
+disjunction-join-requires t c =
+    let sofar : Linked or_chain 0 c.args.tokens.now c.args.p c.args.n c.args.d c.args.words.now c.loop-words.words 0 (Ok (c.loop-words.q, c.loop-words.m)) = c.loop-words.invariant c.args.words.now (rw c.in_ok-q.was at (chain_starts or_chain 0 c.conjunction.ensures c.conjunction.auto.words)) in
+    let o = chain_paid or_chain 0 sofar refl in let l = kind_within c.args.tokens.now c.loop-words.q (omega (arith, c.kind_at.ensures)) in join_room 16 0 c.conjunction-b.ensures (omega arith) (omega arith) (omega arith) (omega arith) (omega arith) (omega (arith, sofar.long))
+
+pub disjunction-returns-in_err-q-2 : goal.disjunction-returns-in_err-q-2
+disjunction-returns-in_err-q-2 t c =
+    let sofar : Linked or_chain 0 c.args.tokens.now c.args.p c.args.n c.args.d c.args.words.now c.loop-words.words 0 (Ok (c.loop-words.q, c.loop-words.m)) = c.loop-words.invariant c.args.words.now (rw c.in_ok-q.was at (chain_starts or_chain 0 c.conjunction.ensures c.conjunction.auto.words)) in
+    let p = err_from_is_err_and c.from_residual-in_err-q-2.result c.from_residual-in_err-q-2.ensures.1 in rw (p.1, p.2) (or_whole (chain_stops or_chain 0 (chain_on or_chain 0 sofar refl (omega arith) (sym c.kind_at.ensures ∙ c.loop-words-test.true) c.conjunction-b.ensures c.join.ensures (c.join.auto.words ∙ c.conjunction-b.auto.words ∙ sofar.long)) c.in_err-q-2.was))
+
+pub disjunction-loop-words-smaller : goal.disjunction-loop-words-smaller
+disjunction-loop-words-smaller t c = let h = rw c.in_ok-q-2.was at (chain_less 16 _ _ refl (kind_within c.args.tokens.now c.loop-words.q (omega (arith, c.kind_at.ensures))) c.conjunction-b.ensures c.join.ensures) in omega (arith, h)
+
+pub disjunction-loop-words-preserved : goal.disjunction-loop-words-preserved
+disjunction-loop-words-preserved t c = λ A s. let h = c.loop-words.invariant A s in rw c.in_ok-q-2.was at (chain_on or_chain 0 h refl (omega arith) (sym c.kind_at.ensures ∙ c.loop-words-test.true) c.conjunction-b.ensures c.join.ensures (c.join.auto.words ∙ c.conjunction-b.auto.words ∙ h.long))
+
+pub disjunction-returns : goal.disjunction-returns
+disjunction-returns t c =
+    let sofar : Linked or_chain 0 c.args.tokens.now c.args.p c.args.n c.args.d c.args.words.now c.loop-words.words 0 (Ok (c.loop-words.q, c.loop-words.m)) = c.loop-words.invariant c.args.words.now (rw c.in_ok-q.was at (chain_starts or_chain 0 c.conjunction.ensures c.conjunction.auto.words)) in
+    or_whole (chain_ends or_chain 0 sofar refl (λ e. c.loop-words-test.false (c.kind_at.ensures ∙ e)))
+
+pub sum-returns-in_err-q : goal.sum-returns-in_err-q
+sum-returns-in_err-q t c = let p = err_from_is_err_and c.from_residual.result c.from_residual.ensures.1 in rw (p.1, p.2) (chain_stops sum_chain 8 (chain_starts sum_chain 8 c.summand.ensures c.summand.auto.words) c.in_err-q.was)
+
+pub sum-overflow_add-q : goal.sum-overflow_add-q
+sum-overflow_add-q t c =
+    let sofar : Linked sum_chain 8 c.args.tokens.now c.args.p c.args.n c.args.d c.args.words.now c.loop-p.words c.loop-p.k (Ok (c.loop-p.q, c.loop-p.m)) = c.loop-p.invariant c.args.words.now (rw c.in_ok-q.was at (chain_starts sum_chain 8 c.summand.ensures c.summand.auto.words)) in
+    let o = chain_paid sum_chain 8 sofar refl in omega arith
+
+pub sum-returns-then-k-eq0 : goal.sum-returns-then-k-eq0
+sum-returns-then-k-eq0 t c =
+    let sofar : Linked sum_chain 8 c.args.tokens.now c.args.p c.args.n c.args.d c.args.words.now c.loop-p.words c.loop-p.k (Ok (c.loop-p.q, c.loop-p.m)) = c.loop-p.invariant c.args.words.now (rw c.in_ok-q.was at (chain_starts sum_chain 8 c.summand.ensures c.summand.auto.words)) in
+    chain_ninth sofar refl c.if-k-eq0.true (omega arith) (sym c.kind_at.ensures ∙ c.loop-p-test.true) c.ninth.ensures
+
+pub sum-overflow_add-q-in-loop-p : goal.sum-overflow_add-q-in-loop-p
+sum-overflow_add-q-in-loop-p t c =
+    let sofar : Linked sum_chain 8 c.args.tokens.now c.args.p c.args.n c.args.d c.args.words.now c.loop-p.words c.loop-p.k (Ok (c.loop-p.q, c.loop-p.m)) = c.loop-p.invariant c.args.words.now (rw c.in_ok-q.was at (chain_starts sum_chain 8 c.summand.ensures c.summand.auto.words)) in
+    let o = chain_paid sum_chain 8 sofar refl in omega arith
+
+pub sum-summand-b-requires : goal.sum-summand-b-requires
+sum-summand-b-requires t c =
+    let sofar : Linked sum_chain 8 c.args.tokens.now c.args.p c.args.n c.args.d c.args.words.now c.loop-p.words c.loop-p.k (Ok (c.loop-p.q, c.loop-p.m)) = c.loop-p.invariant c.args.words.now (rw c.in_ok-q.was at (chain_starts sum_chain 8 c.summand.ensures c.summand.auto.words)) in
+    let o = chain_paid sum_chain 8 sofar refl in let l = kind_within c.args.tokens.now c.loop-p.q (omega (arith, c.kind_at.ensures)) in omega (arith, sofar.long)
+
+pub sum-join-requires : goal.sum-join-requires
+sum-join-requires t c =
+    let sofar : Linked sum_chain 8 c.args.tokens.now c.args.p c.args.n c.args.d c.args.words.now c.loop-p.words c.loop-p.k (Ok (c.loop-p.q, c.loop-p.m)) = c.loop-p.invariant c.args.words.now (rw c.in_ok-q.was at (chain_starts sum_chain 8 c.summand.ensures c.summand.auto.words)) in
+    let o = chain_paid sum_chain 8 sofar refl in let l = kind_within c.args.tokens.now c.loop-p.q (omega (arith, c.kind_at.ensures)) in join_room 26 0 c.summand-b.ensures (omega arith) (omega arith) (omega arith) (omega arith) (omega arith) (omega (arith, sofar.long))
+
+pub sum-returns-in_err-q-2 : goal.sum-returns-in_err-q-2
+sum-returns-in_err-q-2 t c =
+    let sofar : Linked sum_chain 8 c.args.tokens.now c.args.p c.args.n c.args.d c.args.words.now c.loop-p.words c.loop-p.k (Ok (c.loop-p.q, c.loop-p.m)) = c.loop-p.invariant c.args.words.now (rw c.in_ok-q.was at (chain_starts sum_chain 8 c.summand.ensures c.summand.auto.words)) in
+    let p = err_from_is_err_and c.from_residual-in_err-q-2.result c.from_residual-in_err-q-2.ensures.1 in rw (p.1, p.2) (chain_stops sum_chain 8 (sum_on sofar refl c.if-k-eq0.false (omega arith) (sym c.kind_at.ensures ∙ c.loop-p-test.true) c.summand-b.ensures c.join.ensures (c.join.auto.words ∙ c.summand-b.auto.words ∙ sofar.long)) c.in_err-q-2.was)
+
+pub sum-loop-p-smaller : goal.sum-loop-p-smaller
+sum-loop-p-smaller t c = let h = rw c.in_ok-q-2.was at (chain_less 26 _ _ refl (kind_within c.args.tokens.now c.loop-p.q (omega (arith, c.kind_at.ensures))) c.summand-b.ensures c.join.ensures) in omega (arith, h)
+
+pub sum-loop-p-preserved : goal.sum-loop-p-preserved
+sum-loop-p-preserved t c = λ A s. let h = c.loop-p.invariant A s in rw c.in_ok-q-2.was at (sum_on h refl c.if-k-eq0.false (omega arith) (sym c.kind_at.ensures ∙ c.loop-p-test.true) c.summand-b.ensures c.join.ensures (c.join.auto.words ∙ c.summand-b.auto.words ∙ h.long))
+
+pub sum-returns : goal.sum-returns
+sum-returns t c =
+    let sofar : Linked sum_chain 8 c.args.tokens.now c.args.p c.args.n c.args.d c.args.words.now c.loop-p.words c.loop-p.k (Ok (c.loop-p.q, c.loop-p.m)) = c.loop-p.invariant c.args.words.now (rw c.in_ok-q.was at (chain_starts sum_chain 8 c.summand.ensures c.summand.auto.words)) in
+    chain_ends sum_chain 8 sofar refl (λ e. c.loop-p-test.false (c.kind_at.ensures ∙ e))

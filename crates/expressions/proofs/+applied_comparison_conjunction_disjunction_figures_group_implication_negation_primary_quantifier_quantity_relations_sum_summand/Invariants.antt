@@ -1,3 +1,4 @@
+use Rattle.std.specs.Prelude.{Ok}
 use Prim.Native.Nat.{◌+◌, ◌*◌, ◌-◌}
 use mathlib.Core.List.{List}
 use lib.ListN.{length}
@@ -48,20 +49,20 @@ decreases-sum l = 8 * (length l.tokens.now - l.p) + 4
 abbrev pub decreases-summand : goal.decreases-summand
 decreases-summand l = 8 * (length l.tokens.now - l.p) + 3
 
-abbrev pub invariant-conjunction-loop-a : goal.invariant-conjunction-loop-a
-invariant-conjunction-loop-a l = (A : List ℕ) → Linked and_chain 0 l.tokens l.p l.n l.d A l.initial.words 0 l.initial.a → Linked and_chain 0 l.tokens l.p l.n l.d A l.words 0 l.a
+abbrev pub invariant-conjunction-loop-words : goal.invariant-conjunction-loop-words
+invariant-conjunction-loop-words l = (A : List ℕ) → Linked and_chain 0 l.tokens l.p l.n l.d A l.initial.words 0 (Ok (l.initial.q, l.initial.m)) → Linked and_chain 0 l.tokens l.p l.n l.d A l.words 0 (Ok (l.q, l.m))
 
-abbrev pub decreases-conjunction-loop-a : goal.decreases-conjunction-loop-a
-decreases-conjunction-loop-a l = left l.tokens l.a
+abbrev pub decreases-conjunction-loop-words : goal.decreases-conjunction-loop-words
+decreases-conjunction-loop-words l = length l.tokens - l.q
 
-abbrev pub invariant-disjunction-loop-a : goal.invariant-disjunction-loop-a
-invariant-disjunction-loop-a l = (A : List ℕ) → Linked or_chain 0 l.tokens l.p l.n l.d A l.initial.words 0 l.initial.a → Linked or_chain 0 l.tokens l.p l.n l.d A l.words 0 l.a
+abbrev pub invariant-disjunction-loop-words : goal.invariant-disjunction-loop-words
+invariant-disjunction-loop-words l = (A : List ℕ) → Linked or_chain 0 l.tokens l.p l.n l.d A l.initial.words 0 (Ok (l.initial.q, l.initial.m)) → Linked or_chain 0 l.tokens l.p l.n l.d A l.words 0 (Ok (l.q, l.m))
 
-abbrev pub decreases-disjunction-loop-a : goal.decreases-disjunction-loop-a
-decreases-disjunction-loop-a l = left l.tokens l.a
+abbrev pub decreases-disjunction-loop-words : goal.decreases-disjunction-loop-words
+decreases-disjunction-loop-words l = length l.tokens - l.q
 
-abbrev pub invariant-sum-loop-a : goal.invariant-sum-loop-a
-invariant-sum-loop-a l = (A : List ℕ) → Linked sum_chain 8 l.tokens l.p l.n l.d A l.initial.words l.initial.k l.initial.a → Linked sum_chain 8 l.tokens l.p l.n l.d A l.words l.k l.a
+abbrev pub invariant-sum-loop-p : goal.invariant-sum-loop-p
+invariant-sum-loop-p l = (A : List ℕ) → Linked sum_chain 8 l.tokens l.p l.n l.d A l.initial.words l.initial.k (Ok (l.initial.q, l.initial.m)) → Linked sum_chain 8 l.tokens l.p l.n l.d A l.words l.k (Ok (l.q, l.m))
 
-abbrev pub decreases-sum-loop-a : goal.decreases-sum-loop-a
-decreases-sum-loop-a l = left l.tokens l.a
+abbrev pub decreases-sum-loop-p : goal.decreases-sum-loop-p
+decreases-sum-loop-p l = length l.tokens - l.q

@@ -1,18 +1,22 @@
 use Prim.Native.Nat.{ℕ}
-use mathlib.Core.Path.{◌≡◌, ap, subst, ◌∙◌}
+use mathlib.Core.Path.{◌≡◌, sym, ap, ◌∙◌}
 use native.Mathlib.Omega.{arith}
 use lib.ListN.{length, replicate}
-use Rattle.facts.specs.Reading.{MeetsAfter}
 use Rattle.facts.proofs.ReadingLaws.{alone_given, alone_refused}
 use Rattle.facts.proofs.read_facts.Goals as goal
 
-pub returns-in-Given : goal.returns-in-Given
-returns-in-Given c = let read-second = c.read_second in
-    alone_given c.args.facts.now c.args.query.now c.args.relations.now read-second.new.relations c.args.universe.now read-second.new.universe c.in-Given.c (subst (MeetsAfter c.args.facts.now c.args.query.now (record { relations = 0; elements = 0 }) c.args.relations.now read-second.new.relations c.args.universe.now read-second.new.universe) c.in-Given.is read-second.ensures)
+pub returns-then-is_err : goal.returns-then-is_err
+returns-then-is_err c =
+    let a = c.args in
+    let read = c.read_second-read in
+    let r : length read.new.relations ≡ length a.relations.now = omega arith in
+    let u : length read.new.universe ≡ length a.universe.now = omega arith in
+    alone_refused a.facts.now a.query.now a.relations.now read.new.relations a.universe.now read.new.universe c.fill.new.self c.fill-then-is_err.new.self
+    (c.fill.ensures.after (λ y h. h) ∙ ap (λ (k : ℕ). replicate k 0) r) (c.fill-then-is_err.ensures.after (λ y h. h) ∙ ap (λ (k : ℕ). replicate k 0) u)
+    read.result (sym c.is_err.ensures.value ∙ c.if-is_err.true) read.ensures
 
-pub returns-in-Refused : goal.returns-in-Refused
-returns-in-Refused c = let read-second = c.read_second in
-    let r : length read-second.new.relations ≡ length c.args.relations.now = omega arith in
-    let u : length read-second.new.universe ≡ length c.args.universe.now = omega arith in
-    let m = subst (MeetsAfter c.args.facts.now c.args.query.now (record { relations = 0; elements = 0 }) c.args.relations.now read-second.new.relations c.args.universe.now read-second.new.universe) c.in-Refused.is read-second.ensures in
-    (alone_refused c.args.facts.now c.args.query.now c.args.relations.now read-second.new.relations c.args.universe.now read-second.new.universe c.in-Refused.q m, c.clear.ensures ∙ ap (λ (k : ℕ). replicate k 0) r, c.clear-in-Refused.ensures ∙ ap (λ (k : ℕ). replicate k 0) u)
+pub returns-else-is_err : goal.returns-else-is_err
+returns-else-is_err c =
+    let a = c.args in
+    let read = c.read_second-read in
+    alone_given a.facts.now a.query.now a.relations.now read.new.relations a.universe.now read.new.universe read.result (sym c.is_err.ensures.value ∙ c.if-is_err.false) read.ensures

@@ -14,7 +14,7 @@ returns-then-legal-query c = let q = c.args.query.now in
     let f = c.scan_query in
     let e = c.run_end-legal.ensures.value ∙ zero-add (span is_legal q) in
     let h = c.if-query-gt16384.false in
-    let b = subst (Scanned q f.new.words) c.in-Read.is f.ensures in
+    let b = subst (Scanned q f.new.words) c.in-Ok.is f.ensures in
     record { value = rw e (bad_byte q h b (rw e at c.if-legal-query.true)); within = (omega arith, λ i l. absurd (not-suc-le-zero l)) }
 
 pub returns-then-count-gt2048 : goal.returns-then-count-gt2048
@@ -22,21 +22,21 @@ returns-then-count-gt2048 c = let q = c.args.query.now in
     let f = c.scan_query in
     let e = c.run_end-legal.ensures.value ∙ zero-add (span is_legal q) in
     let h = c.if-query-gt16384.false in
-    let b = subst (Scanned q f.new.words) c.in-Read.is f.ensures in
+    let b = subst (Scanned q f.new.words) c.in-Ok.is f.ensures in
     record { value = too_many q h b (rw e at c.if-legal-query.false) c.if-count-gt2048.true; within = (omega arith, λ i l. absurd (not-suc-le-zero l)) }
 
-pub returns-in-Stopped : goal.returns-in-Stopped
-returns-in-Stopped c = let q = c.args.query.now in
+pub returns-in-Err : goal.returns-in-Err
+returns-in-Err c = let q = c.args.query.now in
     let f = c.scan_query in
     let e = c.run_end-legal.ensures.value ∙ zero-add (span is_legal q) in
     let h = c.if-query-gt16384.false in
-    let b = subst (Scanned q f.new.words) c.in-Stopped.is f.ensures in
-    record { value = rw (c.smaller.ensures, e) (no_token q h b); within = (omega arith, λ i l. absurd (not-suc-le-zero l)) }
+    let b = subst (Scanned q f.new.words) c.in-Err.is f.ensures in
+    record { value = rw (c.min.ensures, e) (no_token q h b); within = (omega arith, λ i l. absurd (not-suc-le-zero l)) }
 
 pub returns-else-count-gt2048 : goal.returns-else-count-gt2048
 returns-else-count-gt2048 c = let q = c.args.query.now in
     let f = c.scan_query in
     let e = c.run_end-legal.ensures.value ∙ zero-add (span is_legal q) in
     let h = c.if-query-gt16384.false in
-    let b = subst (Scanned q f.new.words) c.in-Read.is f.ensures in
+    let b = subst (Scanned q f.new.words) c.in-Ok.is f.ensures in
     record { value = all_read q h b (rw e at c.if-legal-query.false) c.if-count-gt2048.false (omega (arith, f.auto)); within = (c.if-count-gt2048.false, all_inside q h b c.if-count-gt2048.false (omega (arith, f.auto))) }

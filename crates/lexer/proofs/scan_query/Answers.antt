@@ -1,5 +1,5 @@
 use mathlib.Core.Path.{refl, subst}
-use Prim.Native.Nat.{◌<◌, ◌+◌, ◌-◌, ◌≤◌}
+use Prim.Native.Nat.{◌<◌, ◌+◌, ◌≤◌}
 use native.Mathlib.Omega.{arith}
 use lib.ListN.{length, length-set}
 use Rattle.lexer.proofs.Steps.{past_gap, past_token, step_gap, step_token, step_stop, step_end}

@@ -1,52 +1,27 @@
-use Prim.Native.Nat.{◌+◌, ◌-◌, ◌<◌, min}
-use mathlib.Core.Path.{refl, ◌∙◌}
+use Prim.Native.Nat.{◌+◌, ◌-◌, min}
+use mathlib.Core.Path.{◌≡◌, ap, ◌∙◌}
 use native.Mathlib.Nat.{min-le_left, min-le_right}
 use native.Mathlib.Omega.{arith}
-use lib.ListN.{length, length-set}
-use Rattle.lines.proofs.Puts.{copy_none, copy_more, copy_all}
+use lib.ListN.{length, take}
+use borrow.Rule.Slice.PartMut.{put_mid}
+use lib.Seq.{sets, length-take-le}
+use Rattle.tuples.proofs.Stores.{sets_part}
+use Rattle.lines.proofs.Puts.{copy_none, copy_all}
 use Rattle.lines.proofs.copy.Goals as goal
 
-pub overflow_add-at : goal.overflow_add-at
-overflow_add-at c = omega arith
+pub returns-then-at-end : goal.returns-then-at-end
+returns-then-at-end c = let a = c.args in
+    let out = a.out.now in
+    let s = a.s.now in
+    let m = c.min-end.result - a.at in
+    let end : c.min-end.result ≡ min (a.at + length s) (length out) = c.min-end.ensures in
+    let size : length (take m s) ≡ m = length-take-le m s (omega (arith, end, min-le_left (a.at + length s) (length out))) in
+    let new = c.copy_from_slice.new.self in
+    let part : put_mid a.at m out new ≡ sets out a.at (take m s) =
+    ap (put_mid a.at m out) c.copy_from_slice.ensures.after ∙ sets_part out a.at m (take m s) (omega (arith, end, min-le_right (a.at + length s) (length out))) size in
+    copy_all out (put_mid a.at m out new) s a.at c.min-end.result (omega arith) part (omega (arith, end))
 
-pub loop-p-init : goal.loop-p-init
-loop-p-init c = let a = c.args in
-    (omega arith, omega arith, c.smaller-end.ensures, refl, copy_none a.out.now a.s.now a.at)
-
-pub overflow_sub-out : goal.overflow_sub-out
-overflow_sub-out c = c.loop-p.invariant.0
-
-pub bounds-s-p : goal.bounds-s-p
-bounds-s-p c = let a = c.args in
-    omega (arith, c.loop-p.invariant.2, min-le_left (a.at + length a.s.now) (length a.out.now))
-
-pub bounds-out-p : goal.bounds-out-p
-bounds-out-p c = let a = c.args in
-    let h = c.loop-p.invariant in
-    omega (arith, h.2, h.3, min-le_right (a.at + length a.s.now) (length a.out.now))
-
-pub overflow_add-p : goal.overflow_add-p
-overflow_add-p c = omega arith
-
-pub loop-p-smaller : goal.loop-p-smaller
-loop-p-smaller c = omega arith
-
-pub loop-p-preserved : goal.loop-p-preserved
-loop-p-preserved c = let a = c.args in
-    let L = c.loop-p in
-    let h = L.invariant in
-    let m : L.p < a.at + length a.s.now = omega (arith, h.2, min-le_left (a.at + length a.s.now) (length a.out.now)) in (
-      omega arith,
-      omega arith,
-      h.2,
-      length-set L.out L.p _ ∙ h.3,
-      copy_more a.out.now L.out a.s.now a.at L.p h.0 h.4 m,
-    )
-
-pub shape_of-out : goal.shape_of-out
-shape_of-out c = c.loop-p.invariant.3
-
-pub returns : goal.returns
-returns c = let a = c.args in
-    let L = c.loop-p in
-    copy_all a.out.now L.out a.s.now a.at L.p L.invariant.0 L.invariant.4 (omega (arith, L.invariant.2))
+pub returns-else-at-end : goal.returns-else-at-end
+returns-else-at-end c = let a = c.args in
+    let end : c.min-end.result ≡ min (a.at + length a.s.now) (length a.out.now) = c.min-end.ensures in
+    copy_all a.out.now a.out.now a.s.now a.at a.at (omega arith) (copy_none a.out.now a.s.now a.at) (omega (arith, end))

@@ -1,4 +1,4 @@
-use Prim.Native.Nat.{ℕ, ◌-◌}
+use Prim.Native.Nat.{ℕ}
 use mathlib.Core.Path.{refl, ◌∙◌, subst}
 use mathlib.Core.List.{List}
 use native.Mathlib.Omega.{arith}
@@ -11,19 +11,10 @@ use Rattle.lines.proofs.LineLaws.{after_cons, after_none}
 use Rattle.lines.proofs.put_after.Goals as goal
 
 pub loop-k-init : goal.loop-k-init
-loop-k-init c = (omega arith, omega arith, refl, λ r o z. z)
-
-pub bounds-t-k : goal.bounds-t-k
-bounds-t-k c = omega arith
+loop-k-init c = (omega arith, refl, λ r o z. z)
 
 pub put_shown-p-requires : goal.put_shown-p-requires
 put_shown-p-requires c = put_within c.put-q.ensures
-
-pub overflow_add-k : goal.overflow_add-k
-overflow_add-k c = omega arith
-
-pub loop-k-smaller : goal.loop-k-smaller
-loop-k-smaller c = omega arith
 
 pub loop-k-preserved : goal.loop-k-preserved
 loop-k-preserved c = let a = c.args in
@@ -31,19 +22,15 @@ loop-k-preserved c = let a = c.args in
     let T = texts a.facts.now a.query.now a.places.now in
     let l = good_length (e_int w8) 4 a.t _ c.well_formed.1.1.1.1.1.0 in
     let q = put_then c.put-q.ensures c.put_shown-p.ensures in (
-      omega arith,
       put_within q,
-      put_length q ∙ L.invariant.2,
-      λ r o z. L.invariant.3 r o
+      put_length q ∙ L.invariant.1,
+      λ r o z. L.invariant.2 r o
           (subst (λ (x : List ℕ). Put a.write L.out L.p x r o) (after_cons T a.n L.k a.t (omega arith) (omega arith)) (put_then q z)),
     )
-
-pub shape_of-out : goal.shape_of-out
-shape_of-out c = omega arith
 
 pub returns : goal.returns
 returns c = let a = c.args in
     let L = c.loop-k in
     let T = texts a.facts.now a.query.now a.places.now in
-    L.invariant.3 L.p L.out
-    (subst (λ (x : List ℕ). Put a.write L.out L.p x L.p L.out) (after_none T a.n L.k a.t (omega arith)) (put_none L.invariant.1))
+    L.invariant.2 L.p L.out
+    (subst (λ (x : List ℕ). Put a.write L.out L.p x L.p L.out) (after_none T a.n L.k a.t (omega arith)) (put_none L.invariant.0))

@@ -1,4 +1,3 @@
-use Prim.Native.Nat.{◌-◌, ◌≤◌}
 use mathlib.Core.Bool.{true}
 use lib.ListN.{take}
 use Rattle.definition.specs.Text.{gather}
@@ -6,8 +5,5 @@ use Rattle.lines.specs.Put.{Put}
 use Rattle.listing.specs.Listed.{item_text}
 use Rattle.listing.proofs.put_items.Given as goal
 
-abbrev pub invariant-loop-i : goal.invariant-loop-i
-invariant-loop-i l = (l.i ≤ l.n) × Put true l.initial.out l.at (gather (item_text l.item) (take l.i l.words)) l.p l.out
-
-abbrev pub decreases-loop-i : goal.decreases-loop-i
-decreases-loop-i l = l.n - l.i
+abbrev pub invariant-loop-w : goal.invariant-loop-w
+invariant-loop-w l = Put true l.initial.out l.at (gather (item_text l.item) (take l.w-index l.w-items)) l.p l.out

@@ -5,6 +5,3 @@ use Rattle.machine.proofs.seek.Given as goal
 
 abbrev pub invariant-loop-a : goal.invariant-loop-a
 invariant-loop-a l = members l.s l.from (l.u - l.from) ≡ members l.s l.a (l.u - l.a)
-
-abbrev pub decreases-loop-a : goal.decreases-loop-a
-decreases-loop-a l = l.u - l.a

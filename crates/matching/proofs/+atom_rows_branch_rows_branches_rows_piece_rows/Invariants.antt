@@ -1,4 +1,3 @@
-use Prim.Native.Nat.{◌-◌}
 use Rattle.matching.proofs.+atom_rows_branch_rows_branches_rows_piece_rows.Given as goal
 
 abbrev pub decreases-atom_rows : goal.decreases-atom_rows

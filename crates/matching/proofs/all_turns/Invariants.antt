@@ -1,5 +1,5 @@
 use mathlib.Core.Path.{◌≡◌}
-use Prim.Native.Nat.{suc, ◌-◌, ◌^◌, ◌≤◌, ◌<◌}
+use Prim.Native.Nat.{suc, ◌^◌, ◌<◌}
 use lib.ListN.{length}
 use Rattle.definition.specs.Text.{Text}
 use Rattle.definition.specs.Pattern.{Pattern, Reading, read}
@@ -8,7 +8,4 @@ use Rattle.matching.proofs.RowLaws.{Passed}
 use Rattle.matching.proofs.all_turns.Given as goal
 
 abbrev pub invariant-loop-k : goal.invariant-loop-k
-invariant-loop-k l = ((o : Reading) (e : Text) → Turn o e l.table → (p : Pattern) (ys : Text) → o ≡ read p ys → l.set < 2 ^ suc (length e) → Passed e p l.set l.k l.r) × (l.n ≡ length l.table) × (l.k ≤ l.n)
-
-abbrev pub decreases-loop-k : goal.decreases-loop-k
-decreases-loop-k l = l.n - l.k
+invariant-loop-k l = (o : Reading) (e : Text) → Turn o e l.table → (p : Pattern) (ys : Text) → o ≡ read p ys → l.set < 2 ^ suc (length e) → Passed e p l.set l.k l.r

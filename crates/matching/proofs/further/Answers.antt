@@ -15,13 +15,9 @@ pub returns-then-b-eq63 : goal.returns-then-b-eq63
 unfolding further
 returns-then-b-eq63 c = simp (ne_eqb _ _ c.if-b-eq42.false, ne_eqb _ _ c.if-b-eq43.false, eq-eqb _ _ c.if-b-eq63.true)
 
-pub returns-then-high-low : goal.returns-then-high-low
-unfolding further
-returns-then-high-low c = simp (ne_eqb _ _ c.if-b-eq42.false, ne_eqb _ _ c.if-b-eq43.false, ne_eqb _ _ c.if-b-eq63.false, eq-eqb _ _ c.if-b-eq123.true) (let x = c.digit-low.ensures in let y = c.digit-high.ensures in omega (arith, x, y, c.if-high-low.true))
-
 pub returns-then-b-eq123 : goal.returns-then-b-eq123
 unfolding further
-returns-then-b-eq123 c = simp (ne_eqb _ _ c.if-b-eq42.false, ne_eqb _ _ c.if-b-eq43.false, ne_eqb _ _ c.if-b-eq63.false, eq-eqb _ _ c.if-b-eq123.true, c.digit-low.ensures, c.digit-high.ensures)
+returns-then-b-eq123 c = simp (ne_eqb _ _ c.if-b-eq42.false, ne_eqb _ _ c.if-b-eq43.false, ne_eqb _ _ c.if-b-eq63.false, eq-eqb _ _ c.if-b-eq123.true) (omega (arith, c.digit-low.ensures, c.digit-high.ensures, c.saturating_sub.ensures))
 
 pub returns : goal.returns
 unfolding further

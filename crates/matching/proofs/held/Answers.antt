@@ -1,7 +1,6 @@
 use borrow.Author.Rules.{rules}
 use mathlib.Core.Path.{refl, sym, ◌∙◌}
 use native.Mathlib.Omega.{arith}
-use Prim.Native.Nat.{◌-◌}
 use Rattle.matching.proofs.ByteLaws.{held_none, last_hit, last_miss, plain_hit, plain_miss, range_below, range_hit, range_above}
 use Rattle.matching.proofs.held.Goals as goal
 

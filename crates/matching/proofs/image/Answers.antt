@@ -1,33 +1,17 @@
-use mathlib.Core.Path.{refl}
 use native.Mathlib.Omega.{arith}
-use Prim.Native.Nat.{suc, ◌-◌, ◌<◌}
+use Prim.Native.Nat.{suc, ◌<◌}
 use lib.ListN.{length, get_or}
 use Rattle.matching.proofs.RowLaws.{low_none, low_step, low_all, row_ends}
 use Rattle.matching.proofs.image.Goals as goal
 
 pub loop-k-init : goal.loop-k-init
-loop-k-init c = (λ o e t p ys q. low_none e t.short p c.args.set, refl, omega arith)
-
-pub offset_bounds-table-k : goal.offset_bounds-table-k
-offset_bounds-table-k c = omega arith
-
-pub bounds-table-k : goal.bounds-table-k
-bounds-table-k c = omega arith
-
-pub overflow_step-k : goal.overflow_step-k
-overflow_step-k c = omega arith
-
-pub loop-k-smaller : goal.loop-k-smaller
-loop-k-smaller c = omega arith
+loop-k-init c = λ o e t p ys q. low_none e t.short p c.args.set
 
 pub loop-k-preserved : goal.loop-k-preserved
-loop-k-preserved c = (
-  λ o e t p ys q.
-      let h : c.loop-k.k < suc (length e) = (let l = t.long in omega (arith, l)) in
-      low_step e t.short p c.args.set c.loop-k.k c.loop-k.r (get_or c.args.table.now c.loop-k.k 0) c.with-r.result c.test_bit.result h (c.loop-k.invariant.0 o e t p ys q) (row_ends t p ys c.loop-k.k q h) c.test_bit.ensures c.with-r.ensures,
-  refl,
-  omega arith,
-)
+loop-k-preserved c =
+    λ o e t p ys q.
+    let h : c.loop-k.k < suc (length e) = (let l = t.long in omega (arith, l)) in
+    low_step e t.short p c.args.set c.loop-k.k c.loop-k.r (get_or c.args.table.now c.loop-k.k 0) c.with-r.result c.test_bit.result h (c.loop-k.invariant o e t p ys q) (row_ends t p ys c.loop-k.k q h) c.test_bit.ensures c.with-r.ensures
 
 pub returns : goal.returns
-returns c = λ o e t. record { ends = λ p ys q b. low_all e t.short p c.args.set c.loop-k.k c.loop-k.r (let l = t.long in omega (arith, l)) b (c.loop-k.invariant.0 o e t p ys q) }
+returns c = λ o e t. record { ends = λ p ys q b. low_all e t.short p c.args.set c.loop-k.k c.loop-k.r (let l = t.long in omega (arith, l)) b (c.loop-k.invariant o e t p ys q) }

@@ -1,6 +1,4 @@
 use mathlib.Core.Path.{◌≡◌}
-use Prim.Native.Nat.{◌-◌, ◌≤◌}
-use lib.ListN.{length}
 use Rattle.definition.specs.Text.{Text}
 use Rattle.definition.specs.Pattern.{Pattern, Reading, read}
 use Rattle.matching.specs.Images.{ends_of}
@@ -9,7 +7,4 @@ use Rattle.matching.proofs.RowLaws.{low}
 use Rattle.matching.proofs.image.Given as goal
 
 abbrev pub invariant-loop-k : goal.invariant-loop-k
-invariant-loop-k l = ((o : Reading) (e : Text) → Turn o e l.table → (p : Pattern) (ys : Text) → o ≡ read p ys → l.r ≡ ends_of e p (low l.set l.k)) × (l.n ≡ length l.table) × (l.k ≤ l.n)
-
-abbrev pub decreases-loop-k : goal.decreases-loop-k
-decreases-loop-k l = l.n - l.k
+invariant-loop-k l = (o : Reading) (e : Text) → Turn o e l.table → (p : Pattern) (ys : Text) → o ≡ read p ys → l.r ≡ ends_of e p (low l.set l.k)

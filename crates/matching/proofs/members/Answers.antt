@@ -1,6 +1,6 @@
 use mathlib.Core.Path.{refl}
 use native.Mathlib.Omega.{arith}
-use Prim.Native.Nat.{◌-◌, ◌*◌}
+use Prim.Native.Nat.{◌*◌}
 use Rattle.matching.proofs.SetLaws.{members_past, members_in}
 use lib.Bits.{bit_and}
 use Rattle.matching.proofs.MoveLaws.{fitting_lt, moved_by}

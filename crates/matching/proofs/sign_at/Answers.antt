@@ -1,4 +1,3 @@
-use Rattle.matching.specs.Images.{least, further}
 use Rattle.matching.proofs.sign_at.Goals as goal
 
 pub returns : goal.returns

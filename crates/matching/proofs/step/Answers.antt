@@ -1,41 +1,22 @@
-use mathlib.Core.Path.{◌≡◌, refl, ap}
+use mathlib.Core.Path.{◌≡◌, ap}
 use native.Mathlib.Omega.{arith}
-use Prim.Native.Nat.{ℕ, ◌-◌, ◌*◌}
-use lib.ListN.{length, get_or, length-set}
+use Prim.Native.Nat.{ℕ, ◌*◌}
+use lib.ListN.{get_or}
 use lib.Bits.{bit_and, and_le_r}
 use Rattle.matching.proofs.RowLaws.{upto_none, upto_more, upto_all}
 use Rattle.matching.proofs.step.Goals as goal
 
-pub loop-i-init : goal.loop-i-init
-loop-i-init c = (upto_none (λ (i a r : ℕ). r ≡ bit_and a c.args.bytes * 2) c.args.rows.now, refl, omega arith)
+pub loop-row-init : goal.loop-row-init
+loop-row-init c = upto_none (λ (i a r : ℕ). r ≡ bit_and a c.args.bytes * 2) c.args.rows.now
 
-pub offset_bounds-rows-i : goal.offset_bounds-rows-i
-offset_bounds-rows-i c = omega arith
+pub overflow_mul-row : goal.overflow_mul-row
+overflow_mul-row c = let h = and_le_r (get_or c.loop-row.rows c.loop-row.row-index 0) c.args.bytes in omega (arith, h, c.requires)
 
-pub bounds-rows-i : goal.bounds-rows-i
-bounds-rows-i c = omega arith
-
-pub overflow_mul-rows : goal.overflow_mul-rows
-overflow_mul-rows c = let h = and_le_r (get_or c.loop-i.rows c.loop-i.i 0) c.args.bytes in omega (arith, h, c.requires)
-
-pub offset_bounds-rows-i-in-loop-i : goal.offset_bounds-rows-i-in-loop-i
-offset_bounds-rows-i-in-loop-i c = omega arith
-
-pub bounds-rows-i-in-loop-i : goal.bounds-rows-i-in-loop-i
-bounds-rows-i-in-loop-i c = omega arith
-
-pub overflow_step-i : goal.overflow_step-i
-overflow_step-i c = omega arith
-
-pub loop-i-smaller : goal.loop-i-smaller
-loop-i-smaller c = omega arith
-
-pub loop-i-preserved : goal.loop-i-preserved
-loop-i-preserved c = let u = c.loop-i.invariant.0 in
-    (upto_more (λ (i a r : ℕ). r ≡ bit_and a c.args.bytes * 2) c.loop-i.i c.args.rows.now c.loop-i.rows (bit_and (get_or c.loop-i.rows c.loop-i.i 0) c.args.bytes * 2) u (let h = u.long in omega (arith, h)) (ap (λ w. bit_and w c.args.bytes * 2) (u.rest c.loop-i.i (omega arith))), simp length-set (omega arith), omega arith)
-
-pub shape_of-rows : goal.shape_of-rows
-shape_of-rows c = omega arith
+pub loop-row-preserved : goal.loop-row-preserved
+loop-row-preserved c = let l = c.loop-row in
+    let u = l.invariant in
+    upto_more (λ (i a r : ℕ). r ≡ bit_and a c.args.bytes * 2) l.row-index c.args.rows.now l.rows (bit_and (get_or l.rows l.row-index 0) c.args.bytes * 2) u (let h = u.long in omega (arith, h)) (ap (λ w. bit_and w c.args.bytes * 2) (u.rest l.row-index (omega arith)))
 
 pub returns : goal.returns
-returns c = let u = c.loop-i.invariant.0 in upto_all (λ (i a r : ℕ). r ≡ bit_and a c.args.bytes * 2) c.loop-i.i c.args.rows.now c.loop-i.rows u (let h = u.long in omega (arith, h))
+returns c = let u = c.loop-row.invariant in
+    upto_all (λ (i a r : ℕ). r ≡ bit_and a c.args.bytes * 2) c.loop-row.row-index c.args.rows.now c.loop-row.rows u (let h = u.long in omega (arith, h))

@@ -1,12 +1,8 @@
 use mathlib.Core.Path.{◌≡◌}
-use Prim.Native.Nat.{ℕ, ◌-◌, ◌*◌, ◌≤◌}
-use lib.ListN.{length}
+use Prim.Native.Nat.{ℕ, ◌*◌}
 use lib.Bits.{bit_and}
 use Rattle.matching.proofs.RowLaws.{Upto}
 use Rattle.matching.proofs.step.Given as goal
 
-abbrev pub invariant-loop-i : goal.invariant-loop-i
-invariant-loop-i l = Upto (λ (m a r : ℕ). r ≡ bit_and a l.bytes * 2) l.i l.initial.rows l.rows × (length l.rows ≡ l.n) × (l.i ≤ l.n)
-
-abbrev pub decreases-loop-i : goal.decreases-loop-i
-decreases-loop-i l = l.n - l.i
+abbrev pub invariant-loop-row : goal.invariant-loop-row
+invariant-loop-row l = Upto (λ (m a r : ℕ). r ≡ bit_and a l.bytes * 2) l.row-index l.initial.rows l.rows

@@ -1,44 +1,19 @@
-use mathlib.Core.Path.{◌≡◌, refl, ap}
+use mathlib.Core.Path.{◌≡◌, ap}
 use native.Mathlib.Omega.{arith}
-use Prim.Native.Nat.{ℕ, ◌-◌}
-use lib.ListN.{length, get_or, length-set}
+use Prim.Native.Nat.{ℕ}
+use lib.ListN.{get_or}
 use lib.Bits.{bit_or}
 use Rattle.matching.proofs.RowLaws.{upto_none, upto_more, upto_all}
 use Rattle.matching.proofs.unite.Goals as goal
 
 pub loop-i-init : goal.loop-i-init
-loop-i-init c = (upto_none (λ (i a r : ℕ). r ≡ bit_or a (get_or c.args.other.now i 0)) c.args.rows.now, refl, omega arith)
-
-pub offset_bounds-rows-i : goal.offset_bounds-rows-i
-offset_bounds-rows-i c = omega arith
-
-pub bounds-rows-i : goal.bounds-rows-i
-bounds-rows-i c = omega arith
-
-pub offset_bounds-other-i : goal.offset_bounds-other-i
-offset_bounds-other-i c = omega arith
-
-pub bounds-other-i : goal.bounds-other-i
-bounds-other-i c = omega arith
-
-pub offset_bounds-rows-i-in-loop-i : goal.offset_bounds-rows-i-in-loop-i
-offset_bounds-rows-i-in-loop-i c = omega arith
-
-pub bounds-rows-i-in-loop-i : goal.bounds-rows-i-in-loop-i
-bounds-rows-i-in-loop-i c = omega arith
-
-pub overflow_step-i : goal.overflow_step-i
-overflow_step-i c = omega arith
-
-pub loop-i-smaller : goal.loop-i-smaller
-loop-i-smaller c = omega arith
+loop-i-init c = upto_none (λ (i a r : ℕ). r ≡ bit_or a (get_or c.args.other.now i 0)) c.args.rows.now
 
 pub loop-i-preserved : goal.loop-i-preserved
-loop-i-preserved c = let u = c.loop-i.invariant.0 in
-    (upto_more (λ (i a r : ℕ). r ≡ bit_or a (get_or c.args.other.now i 0)) c.loop-i.i c.args.rows.now c.loop-i.rows (bit_or (get_or c.loop-i.rows c.loop-i.i 0) (get_or c.args.other.now c.loop-i.i 0)) u (let h = u.long in omega (arith, h)) (ap (λ w. bit_or w (get_or c.args.other.now c.loop-i.i 0)) (u.rest c.loop-i.i (omega arith))), simp length-set (omega arith), omega arith)
-
-pub shape_of-rows : goal.shape_of-rows
-shape_of-rows c = omega arith
+loop-i-preserved c = let l = c.loop-i in
+    let u = l.invariant in
+    upto_more (λ (i a r : ℕ). r ≡ bit_or a (get_or c.args.other.now i 0)) l.i c.args.rows.now l.rows (bit_or (get_or l.rows l.i 0) (get_or c.args.other.now l.i 0)) u (let h = u.long in omega (arith, h)) (ap (λ w. bit_or w (get_or c.args.other.now l.i 0)) (u.rest l.i (omega arith)))
 
 pub returns : goal.returns
-returns c = let u = c.loop-i.invariant.0 in upto_all (λ (i a r : ℕ). r ≡ bit_or a (get_or c.args.other.now i 0)) c.loop-i.i c.args.rows.now c.loop-i.rows u (let h = u.long in omega (arith, h))
+returns c = let u = c.loop-i.invariant in
+    upto_all (λ (i a r : ℕ). r ≡ bit_or a (get_or c.args.other.now i 0)) c.loop-i.i c.args.rows.now c.loop-i.rows u (let h = u.long in omega (arith, h))

@@ -5,8 +5,8 @@ use Rattle.parser.proofs.read_tokens.Goals as goal
 pub parse-requires : goal.parse-requires
 parse-requires c = (c.requires.few, (omega (arith, c.requires.few, c.requires.room), places _ c.requires))
 
-pub returns-in-Read : goal.returns-in-Read
-returns-in-Read c = tokens_read _ c.requires c.parse.ensures c.in-Read.is
+pub returns-in-Ok : goal.returns-in-Ok
+returns-in-Ok c = tokens_read _ c.requires c.parse.ensures c.in-Ok.is
 
-pub returns-in-Refused : goal.returns-in-Refused
-returns-in-Refused c = tokens_refused _ c.requires c.parse.ensures c.in-Refused.is c.refusal.ensures
+pub returns-in-Err : goal.returns-in-Err
+returns-in-Err c = tokens_refused _ c.requires c.parse.ensures c.in-Err.is c.refusal.ensures

@@ -1,11 +1,13 @@
+use native.Mathlib.Omega.{arith}
+use mathlib.Core.Path.{refl}
 use Rattle.parser.specs.Queries.{too_deep, an_excess, no_program}
 use Rattle.parser.proofs.refusal.Goals as goal
 
-pub returns-then-row-eq13 : goal.returns-then-row-eq13
-returns-then-row-eq13 c = rw c.place_at-at.ensures (too_deep c.if-row-eq13.true)
+pub returns-in-NoProgram : goal.returns-in-NoProgram
+returns-in-NoProgram c = rw (c.in-NoProgram.is, c.place_at.ensures) (no_program (λ e. omega arith) (λ e. omega arith))
 
-pub returns-then-row-eq19 : goal.returns-then-row-eq19
-returns-then-row-eq19 c = rw c.place_at-at.ensures (an_excess c.if-row-eq19.true)
+pub returns-in-TooMuch : goal.returns-in-TooMuch
+returns-in-TooMuch c = rw (c.in-TooMuch.is, c.place_at-in-TooMuch.ensures) (too_deep refl)
 
-pub returns : goal.returns
-returns c = rw c.place_at-at.ensures (no_program c.if-row-eq13.false c.if-row-eq19.false)
+pub returns-in-Number : goal.returns-in-Number
+returns-in-Number c = rw (c.in-Number.is, c.place_at-in-Number.ensures) (an_excess refl)

@@ -1,29 +1,36 @@
-use Prim.Native.Nat.{◌-◌}
-use mathlib.Core.Path.{◌≡◌, sym, ap₂, ◌∙◌}
+use Prim.Native.Nat.{ℕ}
+use mathlib.Core.Path.{◌≡◌, sym, subst, ap₂, ◌∙◌}
 use native.Mathlib.Omega.{arith}
-use lib.ListN.{get_or}
+use lib.ListN.{length}
+use Rattle.std.specs.Prelude.{Err}
+use Rattle.parts.specs.Entries.{enter}
+use Rattle.parts.specs.Places.{entered_at}
 use Rattle.texts.specs.Orders.{order}
 use Rattle.parts.specs.Packed.{text_of}
 use Rattle.parts.proofs.EntryLaws.{passed_none, passed_end, passed_found, passed_new, passed_one}
 use Rattle.parts.proofs.place_of.Goals as goal
 
 pub loop-p-init : goal.loop-p-init
-loop-p-init c = (omega arith, c.text_of-text.ensures, passed_none _ _ _ _)
+loop-p-init c = (c.text_of-text.ensures, passed_none _ _ _ _)
 
-pub returns-in-Same : goal.returns-in-Same
-returns-in-Same c =
-    let compared : c.compare.result ≡ order (text_of c.args.facts.now c.args.query.now c.args.v) (text_of c.args.facts.now c.args.query.now (get_or c.args.parts.now c.loop-p.p 0)) = c.compare.ensures ∙ ap₂ order c.loop-p.invariant.1 c.text_of.ensures in
-    record { value = passed_found _ _ _ _ _ c.loop-p.invariant.2 c.loop-p-test.true (sym (compared) ∙ c.in-Same.is); within = c.loop-p-test.true }
+pub returns-in-Equal-clause-value : goal.returns-in-Equal-clause-value
+returns-in-Equal-clause-value c = passed_found _ _ _ _ _ c.loop-p.invariant.1 c.loop-p-test.true
+    (ap₂ order (sym c.loop-p.invariant.0) (sym c.text_of.ensures) ∙ sym c.compare.ensures ∙ c.in-Equal.is)
 
-pub returns-in-Before : goal.returns-in-Before
-returns-in-Before c =
-    let compared : c.compare.result ≡ order (text_of c.args.facts.now c.args.query.now c.args.v) (text_of c.args.facts.now c.args.query.now (get_or c.args.parts.now c.loop-p.p 0)) = c.compare.ensures ∙ ap₂ order c.loop-p.invariant.1 c.text_of.ensures in
-    record { value = passed_new _ _ _ _ _ c.loop-p.invariant.2 c.loop-p-test.true (sym (compared) ∙ c.in-Before.is); within = c.loop-p.invariant.0 }
+pub returns-in-Less-clause-value : goal.returns-in-Less-clause-value
+returns-in-Less-clause-value c = passed_new _ _ _ _ _ c.loop-p.invariant.1 c.loop-p-test.true
+    (ap₂ order (sym c.loop-p.invariant.0) (sym c.text_of.ensures) ∙ sym c.compare.ensures ∙ c.in-Less.is)
 
 pub loop-p-preserved : goal.loop-p-preserved
-loop-p-preserved c =
-    let compared : c.compare.result ≡ order (text_of c.args.facts.now c.args.query.now c.args.v) (text_of c.args.facts.now c.args.query.now (get_or c.args.parts.now c.loop-p.p 0)) = c.compare.ensures ∙ ap₂ order c.loop-p.invariant.1 c.text_of.ensures in
-    (omega arith, c.loop-p.invariant.1, passed_one _ _ _ _ _ c.loop-p.invariant.2 c.loop-p-test.true (sym (compared) ∙ c.in-After.is))
+loop-p-preserved c = (
+  c.loop-p.invariant.0,
+  passed_one _ _ _ _ _ c.loop-p.invariant.1 c.loop-p-test.true
+      (ap₂ order (sym c.loop-p.invariant.0) (sym c.text_of.ensures) ∙ sym c.compare.ensures ∙ c.in-Greater.is),
+)
 
-pub returns : goal.returns
-returns c = record { value = passed_end _ _ _ _ _ c.loop-p.invariant.2 c.loop-p-test.false; within = c.loop-p.invariant.0 }
+pub returns-clause-value : goal.returns-clause-value
+returns-clause-value c =
+    let a = c.args in
+    let ws = a.parts.now in
+    let e : c.loop-p.p ≡ length ws = omega (arith, c.loop-p.auto.p-end, c.loop-p-test.false) in
+    subst (λ (k : ℕ). enter a.facts.now a.query.now a.v ws ≡ entered_at a.v ws (Err k)) e (passed_end _ _ _ _ _ c.loop-p.invariant.1 c.loop-p-test.false)

@@ -1,4 +1,3 @@
-use Prim.Native.Nat.{◌-◌}
 use Rattle.patterns.proofs.+atom_end_branch_end_branches_end_piece_end.Given as goal
 
 abbrev pub decreases-atom_end : goal.decreases-atom_end

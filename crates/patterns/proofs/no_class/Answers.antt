@@ -1,25 +1,22 @@
-use borrow.Author.Rules.{rules}
-use mathlib.Core.Path.{refl, sym, ap, ◌∙◌}
-use native.Mathlib.Omega.{arith}
-use Prim.Native.Nat.{◌-◌}
+use mathlib.Core.Path.{sym, ap, ◌∙◌}
 use Rattle.definition.specs.Text.{some_of}
 use lib.Dec.{eqb}
 use mathlib.Core.List.{[], ◌∷◌}
 use Prim.Native.Nat.{ℕ}
-use Rattle.patterns.proofs.ByteLaws.{class_none, class_hit, class_other, class_miss}
+use Rattle.patterns.proofs.ByteLaws.{among_is, class_none, class_hit, class_other, class_miss}
 use Rattle.patterns.proofs.no_class.Goals as goal
+use Rattle.patterns.proofs.no_class.Goals.{else-b-eq91-via-then-b-eq91+else-contains, else-b-eq91-via-else-b-eq91}
 
-pub loop-i-init : goal.loop-i-init
-loop-i-init c = (search rules, refl)
-
-pub loop-i-preserved-then-t-i-ne91 : goal.loop-i-preserved-then-t-i-ne91
-loop-i-preserved-then-t-i-ne91 c = (omega arith, c.loop-i.invariant.1 ∙ class_other _ c.loop-i.i c.loop-i-test.true c.if-t-i-ne91.true)
-
-pub returns-then-among : goal.returns-then-among
-returns-then-among c = sym (c.loop-i.invariant.1 ∙ class_hit _ c.loop-i.i c.loop-i-test.true c.if-t-i-ne91.false (ap (λ (b : ℕ). some_of (eqb b) (58 ∷ 46 ∷ 61 ∷ [])) (sym c.byte_at.ensures) ∙ sym c.among.ensures ∙ c.if-among.true))
+pub returns-then-contains : goal.returns-then-contains
+returns-then-contains c =
+    sym (c.loop-i.invariant ∙ class_hit _ c.loop-i.i c.loop-i-test.true c.if-b-eq91.true (ap (λ (b : ℕ). some_of (eqb b) (58 ∷ 46 ∷ 61 ∷ [])) (sym c.byte_at.ensures) ∙ sym (c.contains.ensures.value ∙ among_is _ _) ∙ c.if-contains.true))
 
 pub loop-i-preserved : goal.loop-i-preserved
-loop-i-preserved c = (omega arith, c.loop-i.invariant.1 ∙ class_miss _ c.loop-i.i c.loop-i-test.true (ap (λ (b : ℕ). some_of (eqb b) (58 ∷ 46 ∷ 61 ∷ [])) (sym c.byte_at.ensures) ∙ sym c.among.ensures ∙ c.if-among.false))
+loop-i-preserved c =
+    elim c.else-b-eq91.branch [
+      | else-b-eq91-via-then-b-eq91+else-contains w ↦ c.loop-i.invariant ∙ class_miss _ c.loop-i.i c.loop-i-test.true (ap (λ (b : ℕ). some_of (eqb b) (58 ∷ 46 ∷ 61 ∷ [])) (sym w.byte_at.ensures) ∙ sym (w.contains.ensures.value ∙ among_is _ _) ∙ w.if-contains.false)
+      | else-b-eq91-via-else-b-eq91 w ↦ c.loop-i.invariant ∙ class_other _ c.loop-i.i c.loop-i-test.true w.if-b-eq91.false
+    ]
 
 pub returns : goal.returns
-returns c = sym (c.loop-i.invariant.1 ∙ class_none _ c.loop-i.i c.loop-i-test.false)
+returns c = sym (c.loop-i.invariant ∙ class_none _ c.loop-i.i c.loop-i-test.false)

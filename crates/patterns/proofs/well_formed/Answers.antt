@@ -6,4 +6,4 @@ pub returns-in_default : goal.returns-in_default
 returns-in_default c = formed_wrong c.args.s.now _ refl (sym c.in_default.is ∙ c.branches_end.ensures)
 
 pub returns : goal.returns
-returns c = formed_at c.args.s.now _ c.in-At.i refl (sym c.in-At.is ∙ c.branches_end.ensures)
+returns c = formed_at c.args.s.now _ c.in-Some.i refl (sym c.in-Some.is ∙ c.branches_end.ensures)

@@ -1,12 +1,9 @@
 use Rattle.rows.specs.Tests.{all_fit}
 use Rattle.free.specs.Words.{at}
-use lib.ListN.{length, drop}
+use lib.ListN.{drop}
 use mathlib.Core.Path.{◌≡◌}
-use Prim.Native.Nat.{◌+◌, ◌≤◌, ◌-◌}
+use Prim.Native.Nat.{◌+◌}
 use Rattle.rows.proofs.all_fit.Given as goal
 
 abbrev pub invariant-loop-i : goal.invariant-loop-i
-invariant-loop-i l = (l.i ≤ length l.part) × (all_fit (at l.fr) l.part l.s ≡ all_fit (at l.fr) (drop l.i l.part) (l.s + l.i))
-
-abbrev pub decreases-loop-i : goal.decreases-loop-i
-decreases-loop-i l = length l.part - l.i
+invariant-loop-i l = all_fit (at l.fr) l.part l.s ≡ all_fit (at l.fr) (drop l.i l.part) (l.s + l.i)

@@ -5,19 +5,16 @@ use mathlib.Core.Path.{refl, ap}
 use Rattle.simple.proofs.close_item.Goals as goal
 
 pub pack-requires : goal.pack-requires
-pack-requires c = let s = rw c.in-Read.is at c.requires in omega arith
+pack-requires c = let s = rw c.in_ok-q.was at c.requires in omega arith
 
 pub offset_bounds-words-m : goal.offset_bounds-words-m
-offset_bounds-words-m c = let s = rw c.in-Read.is at c.requires in omega arith
+offset_bounds-words-m c = let s = rw c.in_ok-q.was at c.requires in omega arith
 
 pub bounds-words-m : goal.bounds-words-m
-bounds-words-m c = let s = rw c.in-Read.is at c.requires in omega arith
+bounds-words-m c = let s = rw c.in_ok-q.was at c.requires in omega arith
 
 pub overflow_add-result : goal.overflow_add-result
-overflow_add-result c = let s = rw c.in-Read.is at c.requires in omega arith
+overflow_add-result c = let s = rw c.in_ok-q.was at c.requires in omega arith
 
-pub returns-in-Read : goal.returns-in-Read
-returns-in-Read c = rw c.in-Read.is (refl, ap (λ (w : ℕ). set c.args.words.now c.in-Read.m w) c.pack.ensures)
-
-pub returns-in-Refused : goal.returns-in-Refused
-returns-in-Refused c = rw c.in-Refused.is refl
+pub returns : goal.returns
+returns c = rw c.in_ok-q.was (refl, ap (λ (w : ℕ). set c.args.words.now c.in_ok-q.m w) c.pack.ensures)

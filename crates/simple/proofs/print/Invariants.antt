@@ -1,11 +1,12 @@
-use Prim.Native.Nat.{ℕ}
+use Rattle.std.specs.Prelude.{Ok}
+use Prim.Native.Nat.{ℕ, ◌-◌}
 use mathlib.Core.List.{List}
-use Rattle.expressions.proofs.OperatorLaws.{left}
+use lib.ListN.{length}
 use Rattle.simple.proofs.ItemLaws.{IsPrinting}
 use Rattle.simple.proofs.print.Given as goal
 
-abbrev pub invariant-loop-a : goal.invariant-loop-a
-invariant-loop-a l = (A : List ℕ) → IsPrinting l.tokens l.p l.n l.d A l.initial.words l.initial.a → IsPrinting l.tokens l.p l.n l.d A l.words l.a
+abbrev pub invariant-loop-words : goal.invariant-loop-words
+invariant-loop-words l = (A : List ℕ) → IsPrinting l.tokens l.p l.n l.d A l.initial.words (Ok (l.initial.q, l.initial.m)) → IsPrinting l.tokens l.p l.n l.d A l.words (Ok (l.q, l.m))
 
-abbrev pub decreases-loop-a : goal.decreases-loop-a
-decreases-loop-a l = left l.tokens l.a
+abbrev pub decreases-loop-words : goal.decreases-loop-words
+decreases-loop-words l = length l.tokens - l.q

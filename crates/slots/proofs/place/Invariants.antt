@@ -1,11 +1,8 @@
 use Rattle.slots.specs.Slots.{place_from}
 use lib.ListN.{length, take, drop}
 use mathlib.Core.Path.{◌≡◌}
-use Prim.Native.Nat.{◌≤◌, ◌-◌}
+use Prim.Native.Nat.{◌≤◌}
 use Rattle.slots.proofs.place.Given as goal
 
 abbrev pub invariant-loop-i : goal.invariant-loop-i
-invariant-loop-i l = (l.i ≤ l.n) × (l.n ≤ length l.names) × (place_from l.x (take l.n l.names) 0 ≡ place_from l.x (drop l.i (take l.n l.names)) l.i)
-
-abbrev pub decreases-loop-i : goal.decreases-loop-i
-decreases-loop-i l = l.n - l.i
+invariant-loop-i l = (l.n ≤ length l.names) × (place_from l.x (take l.n l.names) 0 ≡ place_from l.x (drop l.i (take l.n l.names)) l.i)

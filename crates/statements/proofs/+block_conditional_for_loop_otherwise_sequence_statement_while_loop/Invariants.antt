@@ -1,7 +1,7 @@
+use Rattle.std.specs.Prelude.{Ok}
 use mathlib.Core.List.{List}
 use Prim.Native.Nat.{◌+◌, ◌*◌, ◌-◌}
 use lib.ListN.{length}
-use Rattle.expressions.proofs.OperatorLaws.{left}
 use Rattle.statements.proofs.SequenceLaws.{IsSofar}
 use Prim.Native.Nat.{ℕ}
 use Rattle.statements.proofs.+block_conditional_for_loop_otherwise_sequence_statement_while_loop.Given as goal
@@ -27,8 +27,8 @@ decreases-statement l = 3 * (length l.tokens.now - l.p) + 1
 abbrev pub decreases-while_loop : goal.decreases-while_loop
 decreases-while_loop l = 3 * (length l.tokens.now - l.p)
 
-abbrev pub invariant-sequence-loop-a : goal.invariant-sequence-loop-a
-invariant-sequence-loop-a l = (A : List ℕ) → IsSofar l.tokens l.p l.n l.d A l.initial.words l.initial.a → IsSofar l.tokens l.p l.n l.d A l.words l.a
+abbrev pub invariant-sequence-loop-words : goal.invariant-sequence-loop-words
+invariant-sequence-loop-words l = (A : List ℕ) → IsSofar l.tokens l.p l.n l.d A l.initial.words (Ok (l.initial.q, l.initial.m)) → IsSofar l.tokens l.p l.n l.d A l.words (Ok (l.q, l.m))
 
-abbrev pub decreases-sequence-loop-a : goal.decreases-sequence-loop-a
-decreases-sequence-loop-a l = left l.tokens l.a
+abbrev pub decreases-sequence-loop-words : goal.decreases-sequence-loop-words
+decreases-sequence-loop-words l = length l.tokens - l.q

@@ -1,4 +1,4 @@
-use Prim.Native.Nat.{ℕ, ◌-◌, ◌*◌}
+use Prim.Native.Nat.{ℕ, ◌*◌}
 use mathlib.Core.Path.{◌≡◌, sym, ap, ◌∙◌}
 use mathlib.Core.List.{[]}
 use native.Mathlib.Omega.{arith}
@@ -14,28 +14,15 @@ returns-then-is_other c = let n = c.is_other.ensures c.if-is_other.true in
     record { listed = sym n; terminal = λ i. name_terminal _ reserved FIRST_WORD i n; index = omega arith }
 
 pub loop-k-init : goal.loop-k-init
-loop-k-init c = (omega arith, search_start _)
+loop-k-init c = search_start _
 
-pub overflow_mul-a : goal.overflow_mul-a
-overflow_mul-a c = omega arith
-
-pub offset_bounds-lengths-k : goal.offset_bounds-lengths-k
-offset_bounds-lengths-k c = omega arith
-
-pub bounds-lengths-k : goal.bounds-lengths-k
-bounds-lengths-k c = omega arith
-
-pub overflow_add-e : goal.overflow_add-e
+pub overflow_add-a : goal.overflow_add-a
 unfolding lengths
-overflow_add-e c = omega (arith, row_short c.loop-k.k (omega arith))
+overflow_add-a c = omega (arith, row_short c.loop-k.k (omega (arith, c.loop-k-test.true)))
 
 pub slice_bounds-same-count : goal.slice_bounds-same-count
 unfolding lengths
 slice_bounds-same-count c = omega arith
-
-pub slice_bounds-same-start : goal.slice_bounds-same-start
-unfolding lengths
-slice_bounds-same-start c = omega arith
 
 pub slice_bounds-same-end : goal.slice_bounds-same-end
 unfolding lengths
@@ -47,13 +34,7 @@ returns-then-same c =
     let compared : c.same.result ≡ same (get_or reserved c.loop-k.k []) c.args.w.now = c.same.ensures
     ∙ ap (λ (l : Text). same l c.args.w.now)
     (ap (λ (n : ℕ). take n (drop (c.loop-k.k * 7) letters)) (add-sub_cancel_left (c.loop-k.k * 7) _) ∙ row_word c.loop-k.k (omega (arith, c.loop-k-test.true))) in
-    let f = search_found _ c.loop-k.k (omega (arith, c.loop-k-test.true)) c.loop-k.invariant.1 (sym (compared) ∙ c.if-same.true) in record { listed = f.0; terminal = f.1; index = omega (arith, c.loop-k-test.true) }
-
-pub overflow_add-k : goal.overflow_add-k
-overflow_add-k c = omega arith
-
-pub loop-k-smaller : goal.loop-k-smaller
-loop-k-smaller c = omega arith
+    let f = search_found _ c.loop-k.k (omega (arith, c.loop-k-test.true)) c.loop-k.invariant (sym (compared) ∙ c.if-same.true) in record { listed = f.0; terminal = f.1; index = omega (arith, c.loop-k-test.true) }
 
 pub loop-k-preserved : goal.loop-k-preserved
 unfolding lengths letters
@@ -61,7 +42,7 @@ loop-k-preserved c =
     let compared : c.same.result ≡ same (get_or reserved c.loop-k.k []) c.args.w.now = c.same.ensures
     ∙ ap (λ (l : Text). same l c.args.w.now)
     (ap (λ (n : ℕ). take n (drop (c.loop-k.k * 7) letters)) (add-sub_cancel_left (c.loop-k.k * 7) _) ∙ row_word c.loop-k.k (omega (arith, c.loop-k-test.true))) in
-    (omega arith, search_next _ c.loop-k.k (omega (arith, c.loop-k-test.true)) c.loop-k.invariant.1 (sym (compared) ∙ c.if-same.false))
+    search_next _ c.loop-k.k (omega (arith, c.loop-k-test.true)) c.loop-k.invariant (sym (compared) ∙ c.if-same.false)
 
 pub returns : goal.returns
-returns c = let f = search_end _ c.loop-k.k (omega arith) c.loop-k.invariant.1 in record { listed = f.0; terminal = f.1; index = omega arith }
+returns c = let f = search_end _ c.loop-k.k (omega (arith, c.loop-k-test.false)) c.loop-k.invariant in record { listed = f.0; terminal = f.1; index = omega arith }

@@ -3,8 +3,5 @@ use mathlib.Core.Path.{◌≡◌}
 use Rattle.definition.specs.Tables.{table_words}
 use Rattle.tuples.proofs.table_words.Given as goal
 
-abbrev pub invariant-loop-k : goal.invariant-loop-k
-invariant-loop-k l = (1 ≤ l.k) × (l.k ≤ suc (l.n - 1)) × (l.words ≡ table_words l.u l.k)
-
-abbrev pub decreases-loop-k : goal.decreases-loop-k
-decreases-loop-k l = l.n - l.k
+abbrev pub invariant-loop : goal.invariant-loop
+invariant-loop l = (l.counter ≤ suc (l.n - 1)) × (l.words ≡ table_words l.u l.counter)
