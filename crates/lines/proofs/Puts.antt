@@ -1,6 +1,6 @@
 -- Bytes put one after the other.
 use Prim.Native.Nat.{ℕ, ◌+◌, ◌-◌, ◌<◌, ◌≤◌, min}
-use mathlib.Core.Path.{◌≡◌, refl, sym, ap, subst, ◌∙◌}
+use mathlib.Core.Path.{◌≡◌, refl, sym, ap, ap₂, subst, ◌∙◌}
 use mathlib.Core.Bool.{Bool, true, false, cond}
 use mathlib.Core.List.{List, [], ◌∷◌, ◌++◌}
 use mathlib.Core.Logic.{◌⊎◌, inl, inr, ⊎_elim}
@@ -8,9 +8,9 @@ use native.Mathlib.Nat.{add-zero, min-eq_left, min-eq_right, min-le_left, min-le
 use native.Mathlib.Omega.{arith}
 use borrow.Author.Tests.{leb-true, leb-false, le-leb, lt-leb}
 use lib.Dec.{leb}
-use lib.ListN.{length, set, take, drop, length-append, take-append-drop}
+use lib.ListN.{length, get_or, set, take, drop, length-append, take-append-drop}
 use lib.Seq.{sets, length-sets, set_out, length-take-le, take_all}
-use Rattle.tuples.proofs.Stores.{sets_append, sets_out}
+use Rattle.tuples.proofs.Stores.{sets_append, sets_more, sets_out}
 use Rattle.lines.specs.Put.{Put, Printed}
 
 pub le_or_lt : (a b : ℕ) → (a ≤ b) ⊎ (b < a)
@@ -55,13 +55,19 @@ pub put_written : (w : Bool) (out : List ℕ) (at : ℕ) (x : List ℕ) (r : ℕ
 put_written w out at x r out₁ h e f = record { end = e; bytes = f ∙ ap (λ (b : Bool). cond b (sets out at x) out) (sym h) }
 
 -- a text copied up to place p
-pub copy_none : (out s : List ℕ) (at : ℕ) → out ≡ sets out at (take (at - at) s)
-copy_none out s at = ap (λ (k : ℕ). sets out at (take k s)) none
-  where
-    none : 0 ≡ at - at
-    none = omega arith
-
 module _ (out o s : List ℕ) (at p : ℕ) (l : at ≤ p) (e : o ≡ sets out at (take (p - at) s)) where
+  there : at + (p - at) ≡ p
+  there = omega arith
+
+  pub copy_more : p < at + length s → set o p (get_or s (p - at) 0) ≡ sets out at (take (p + 1 - at) s)
+  copy_more h =
+      ap₂ (λ (k : List ℕ) (i : ℕ). set k i (get_or s (p - at) 0)) e (sym there)
+      ∙ sets_more out at s (p - at) 0 (omega arith)
+      ∙ ap (λ (i : ℕ). sets out at (take i s)) next
+    where
+      next : p - at + 1 ≡ p + 1 - at
+      next = omega arith
+
   pub copy_all : min (at + length s) (length out) ≤ p → o ≡ sets out at s
   copy_all h = ⊎_elim (λ k. e ∙ ap (sets out at) (take_all (p - at) s k)) (λ k. e ∙ cut k) (le_or_lt (length s) (p - at))
     where

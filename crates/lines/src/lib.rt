@@ -26,13 +26,14 @@ pub fn put(out: &mut [u8], at: usize, b: u8, write: bool) -> usize
 }
 
 // Writes a text from place `at` on, as far as there is room.
+// Byte by byte: with copy_from_slice the archive for C would need memmove from outside.
 fn copy(out: &mut [u8], at: usize, s: &[u8])
     requires { at ≤ length out.old + 1 }
     ensures { out.new ≡ sets out.old at s.now }
 {
     let end = (at + s.len()).min(out.len());
-    if at < end {
-        out[at..end].copy_from_slice(&s[..end - at]);
+    for p in at..end {
+        out[p] = s[p - at];
     }
 }
 

@@ -94,13 +94,16 @@ fn quoted_too(v: usize, w: usize) -> usize
     if v % 4 == 1 && w % 4 == 0 { w + 1 } else { w }
 }
 
-// Puts v at the place p of the first n words.
+// Puts v at the place p of the first n words. A loop and not the library's `rotate_right`, for which the archive for C would need `memmove`
+// from outside.
 pub fn insert_at<T: Copy>(words: &mut [T], p: usize, n: usize, v: T)
     requires { (p ≤ n) × (n < length words.old) }
     ensures { words.new ≡ (take p words.old ++ v ∷ drop p (take n words.old)) ++ drop (n + 1) words.old }
 {
-    words[n] = v;
-    words[p..=n].rotate_right(1);
+    let mut carried = v;
+    for w in &mut words[p..=n] {
+        std::mem::swap(w, &mut carried);
+    }
 }
 
 // Enters v at its place in the list of the first n words, and answers how many it then has; where it is full, the words stay.

@@ -108,17 +108,20 @@ pub fn of_class(b: u8, k: Class) -> bool
 }
 
 // Where the run of bytes of the class k that starts at `at` ends.
+// By `get` and no range: from a range's end the compiler makes ten counters in the loops that a line of facts is read by.
 pub fn run_end(s: &[u8], at: usize, k: Class) -> usize
     requires { at ≤ length s.now }
     ensures value { result ≡ at + span (is_of k) (drop at s.now) }
     ensures within { (at ≤ result) × (result ≤ length s.now) }
 {
-    for i in at..s.len() {
-        if !of_class(s[i], k) {
+    let mut i = at;
+    while let Some(&b) = s.get(i) {
+        if !of_class(b, k) {
             return i;
         }
+        i += 1;
     }
-    s.len()
+    i
 }
 
 // Whether an element with the text s is printed in quotes though no fact quoted it: "if it is empty or holds a space or tab".

@@ -1,22 +1,26 @@
-use mathlib.Core.Path.{refl, sym, ◌∙◌}
-use borrow.Author.Tests.{not-true, not-false}
+use mathlib.Core.Path.{◌≡◌, sym, ap, ◌∙◌}
+use Prim.Native.Nat.{◌<◌, ◌≤◌}
+use lib.ListN.{length, get_or}
 use native.Mathlib.Omega.{arith}
+use Rattle.std.proofs.Common.{rules}
+use Rattle.std.proofs.lemmas.Option.{gets}
+use Rattle.texts.specs.Classes.{is_of}
 use Rattle.texts.proofs.RunLaws.{run_step, run_stop, run_out}
 use Rattle.texts.proofs.run_end.Goals as goal
 
-pub loop-i-init : goal.loop-i-init
-loop-i-init c = refl
-
 pub returns-then-not-of_class-clause-value : goal.returns-then-not-of_class-clause-value
-returns-then-not-of_class-clause-value c = sym
-    (c.loop-i.invariant
-    ∙ run_stop _ _ c.loop-i.i c.loop-i-test.true (sym c.of_class.ensures ∙ not-true _ c.if-not-of_class.true-raw))
+returns-then-not-of_class-clause-value c =
+    let l : c.loop-b.i < length c.args.s.now = grind (rules, gets) in
+    let b : get_or c.args.s.now c.loop-b.i 0 ≡ c.in-Some.field-0.now = grind (rules, gets) in
+    sym (c.loop-b.invariant.2 ∙ run_stop _ _ c.loop-b.i l (ap (is_of c.args.k) b ∙ sym c.of_class.ensures ∙ c.if-not-of_class.true))
 
-pub loop-i-preserved : goal.loop-i-preserved
-loop-i-preserved c = c.loop-i.invariant
-    ∙ run_step _ _ c.loop-i.i c.loop-i-test.true (sym c.of_class.ensures ∙ not-false _ c.if-not-of_class.false-raw)
+pub loop-b-preserved : goal.loop-b-preserved
+loop-b-preserved c =
+    let l : c.loop-b.i < length c.args.s.now = grind (rules, gets) in
+    let b : get_or c.args.s.now c.loop-b.i 0 ≡ c.in-Some.field-0.now = grind (rules, gets) in
+    (omega (arith, c.loop-b.invariant.0), omega (arith, l), c.loop-b.invariant.2 ∙ run_step _ _ c.loop-b.i l (ap (is_of c.args.k) b ∙ sym c.of_class.ensures ∙ c.if-not-of_class.false))
 
 pub returns-clause-value : goal.returns-clause-value
 returns-clause-value c =
-    let e = c.loop-i.invariant ∙ run_out _ _ c.loop-i.i c.loop-i-test.false in
-    omega (arith, e, c.loop-i.auto.i-end c.requires, c.loop-i-test.false)
+    let l : length c.args.s.now ≤ c.loop-b.i = grind (rules, gets) in
+    sym (c.loop-b.invariant.2 ∙ run_out _ _ c.loop-b.i l)
